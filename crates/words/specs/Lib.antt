@@ -1,0 +1,4 @@
+pub mod Members
+pub mod Firsts
+pub mod OrMemory
+pub mod Rose
