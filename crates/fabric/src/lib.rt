@@ -1,0 +1,2 @@
+//! The routing fabric: which arcs a set of device bits chooses.
+#![tactic(auto)]

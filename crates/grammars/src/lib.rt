@@ -1,0 +1,2 @@
+//! The grammars of the files that the program reads: what their bytes stand for, or their first fault.
+#![tactic(auto)]

@@ -1,0 +1,2 @@
+//! Wires joined by links: drivers, feeds, and when a routing is clean.
+#![tactic(auto)]

@@ -1,0 +1,6 @@
+pub mod Limits
+pub mod Database
+pub mod Grid
+pub mod Profile
+pub mod Side
+pub mod Config

@@ -1,0 +1,6 @@
+pub mod Pieces
+pub mod Lines
+pub mod Words
+pub mod Numbers
+pub mod Names
+pub mod PatternBits
