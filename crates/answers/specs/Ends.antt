@@ -1,16 +1,12 @@
 -- How a run may end beside its answer: a fault of a device, each with its cause, and want of memory.
 -- (Our own.)
 use Rattle.std.specs.Prelude.{◌≡◌, ℕ, ◌<◌, List, [], ◌++◌, Result, Ok, Err, ◌⊎◌}
+use Rattle.words.specs.Appended.{AppendsFront}
 use Rattle.words.specs.Members.{In}
 use Rattle.words.specs.Rose.{Rose}
 use Rattle.answers.specs.Words.{Command, files_read}
 use Rattle.answers.specs.Texts.{read_fault_text}
 use Rattle.answers.specs.Answers.{Status, Done, Unsafe, NoRoute, Refused, Usage, ReadFault, WriteFault, Memory, Answer}
-
--- a text was begun to be printed: a prefix of it was appended, which may be nothing or all of it
-pub record AppendsPrefix (old new text : List ℕ) : Type 0 where
-  pub rest : List ℕ
-  pub whole : new ++ rest ≡ old ++ text
 
 -- the names of the files whose reading may have failed
 abbrev pub fault_names : Result Command ℕ → List (List ℕ)
@@ -21,10 +17,10 @@ fault_names (Err k) = []
 abbrev pub TellsReadFault : Result Command ℕ → List ℕ → List ℕ → Type 0
 TellsReadFault reading old new = (name : List ℕ) × In (fault_names reading) name × (new ≡ old ++ read_fault_text name)
 
--- what was printed where it was cut short: a prefix of the answer's text, or of the text on a failed reading
+-- what was printed where it was cut short: a front of the answer's text, or of the text on a failed reading
 abbrev pub CutShort : Result Command ℕ → Answer → List ℕ → List ℕ → Type 0
 CutShort reading answer old new =
-    AppendsPrefix old new answer.text ⊎ ((name : List ℕ) × In (fault_names reading) name × AppendsPrefix old new (read_fault_text name))
+    AppendsFront old new answer.text ⊎ ((name : List ℕ) × In (fault_names reading) name × AppendsFront old new (read_fault_text name))
 
 -- The status is the answer's and exactly its text was appended, unless a device failed or memory ran out.
 abbrev pub Ends : Result Command ℕ → Answer → Status → List ℕ → List ℕ → Type 0
