@@ -18,6 +18,12 @@ TookFits (Took n) size = (n ≤ size) × (0 < size → 0 < n)
 TookFits Failed size = Unit {0}
 TookFits Memory size = Unit {0}
 
+-- a call that takes bytes takes so many
+abbrev pub TookMost : TakeAnswer → ℕ → Type 0
+TookMost (Took n) most = n ≡ most
+TookMost Failed most = Unit {0}
+TookMost Memory most = Unit {0}
+
 -- the bytes of the piece that a call appends
 abbrev pub taken_of : TakeAnswer → List ℕ → List ℕ
 taken_of (Took n) piece = take n piece

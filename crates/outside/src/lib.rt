@@ -4,14 +4,17 @@
 //! in memory, where chosen calls fail. [`read_whole`] and [`write_all`] are what a program calls.
 #![tactic(auto)]
 
+mod calls;
 mod files;
 mod held;
+mod memory;
 mod sink;
 mod sure;
 mod system;
 mod whole;
 
 pub use files::Files;
+pub use memory::{MemFiles, MemSink};
 pub use sink::Sink;
 pub use sure::{SureFiles, SureSink};
 pub use system::{OsFiles, OsSink};
