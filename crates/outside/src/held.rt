@@ -21,6 +21,7 @@ impl Model for Held {
 }
 
 impl Held {
+    /// Files by name and content.
     pub fn new(entries: Vec<(String, Vec<u8>)>) -> Held
         ensures { result ≡ held_of entries.items }
     {

@@ -7,13 +7,17 @@
 mod calls;
 mod files;
 mod held;
+mod laws;
 mod memory;
 mod sink;
 mod sure;
 mod system;
+#[cfg(test)]
+mod tests;
 mod whole;
 
 pub use files::Files;
+pub use laws::{counts_never_fall, no_fault_at_zero, read_is_exact, whole_is_exact};
 pub use memory::{MemFiles, MemSink};
 pub use sink::Sink;
 pub use sure::{SureFiles, SureSink};

@@ -1,7 +1,9 @@
 //! Files and a sink in memory, of which no call fails.
 
-ghost use Rattle.std.specs.Prelude.{◌≡◌, ℕ, List, []};
-ghost use Rattle.outside.specs.Held.{held_of, file_in};
+ghost use Rattle.std.specs.Prelude.{◌≡◌, ◌≢◌, ℕ, ◌<◌, List, [], ◌++◌, length};
+ghost use Rattle.outside.specs.Files.{Reads, Holds};
+ghost use Rattle.outside.specs.Held.{held_of, file_in, fullest_read};
+ghost use Rattle.outside.specs.Sink.{TookMost, taken_of};
 
 use super::held::Held;
 use super::{Files, PutAnswer, ReadAnswer, Sink, TakeAnswer};
@@ -22,6 +24,7 @@ impl Model for SureFiles {
 }
 
 impl SureFiles {
+    /// Files by name and content.
     pub fn new(files: Vec<(String, Vec<u8>)>) -> SureFiles
         ensures { result ≡ held_of files.items }
     {
@@ -40,11 +43,21 @@ impl Files for SureFiles {
 
     ghost write_faults = { λ _. 0 };
 
-    fn read(&mut self, name: &str, at: u64, buf: &mut [u8]) -> ReadAnswer {
+    fn read(&mut self, name: &str, at: u64, buf: &mut [u8]) -> ReadAnswer
+        requires { 0 < length buf.old }
+        ensures unchanged { self.new ≡ self.old }
+        ensures fullest { result ≡ fullest_read (file_in self.old name.now) at (length buf.old) }
+        ensures answer { Reads (file_in self.old name.now) at result buf.new }
+    {
         self.held.read(name, at, buf)
     }
 
-    fn write(&mut self, name: &str, bytes: &[u8]) -> PutAnswer {
+    fn write(&mut self, name: &str, bytes: &[u8]) -> PutAnswer
+        ensures sure { result ≢ PutAnswer.Failed }
+        ensures others { (other : List ℕ) → other ≢ name.now → file_in self.new other ≡ file_in self.old other }
+        ensures content { Holds result (file_in self.new name.now) bytes.now }
+        ensures kept { result ≢ PutAnswer.Done → self.new ≡ self.old }
+    {
         match self.held.put(name, bytes) {
             Ok(()) => PutAnswer::Done,
             Err(_) => PutAnswer::Memory,
@@ -65,6 +78,7 @@ impl Model for SureSink {
 }
 
 impl SureSink {
+    /// An empty sink.
     pub fn new(alloc: Global) -> SureSink
         ensures { result ≡ [] }
     {
@@ -88,7 +102,11 @@ impl Sink for SureSink {
 
     ghost faults = { λ _. 0 };
 
-    fn write(&mut self, piece: &[u8]) -> TakeAnswer {
+    fn write(&mut self, piece: &[u8]) -> TakeAnswer
+        ensures sure { result ≢ TakeAnswer.Failed }
+        ensures all { TookMost result (length piece.now) }
+        ensures content { self.new ≡ self.old ++ taken_of result piece.now }
+    {
         match self.bytes.extend_from_slice(piece) {
             Ok(()) => TakeAnswer::Took(piece.len()),
             Err(_) => TakeAnswer::Memory,

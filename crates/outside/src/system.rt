@@ -103,3 +103,100 @@ impl<R: Print + Drop> Sink for OsSink<R> {
         }
     }
 }
+
+#[cfg(test)]
+mod tests {
+    use super::*;
+    use crate::{SinkError, WholeError, read_whole, write_all};
+    use std::fmt::Display;
+    use std::fs::File;
+    use std::path::PathBuf;
+    use std::test::Fail;
+    use std::{env, process};
+
+    // The path of a new folder, of this process alone.
+    fn new_folder(rt: &HostRuntime, name: &str) -> io::Result<PathBuf> {
+        let id = process::id(rt.process());
+        let mut path = env::temp_dir(rt)?;
+        path.push(format!(in rt.alloc(); "{name}-{id}")?.as_str())?;
+        fs::create_dir(rt, path.as_str())?;
+        Ok(path)
+    }
+
+    // A file that is written and read; no such file; a path through a file; a folder in a file's place.
+    #[test]
+    fn real_files(rt: HostRuntime) -> Result<(), Fail> {
+        let alloc = rt.alloc();
+        let folder = new_folder(&rt, "outside-files")?;
+        let file = folder.join(alloc, "file")?;
+        let none = folder.join(alloc, "none")?;
+        let through = file.join(alloc, "none")?;
+        let mut files = OsFiles::new(rt);
+        let text = b"some\xff bytes";
+        assert_eq!(rt;
+            files.write(file.as_str(), b"an older and longer text"),
+            PutAnswer::Done
+        );
+        assert_eq!(rt; files.write(file.as_str(), text), PutAnswer::Done);
+        for (path, limit, want) in [
+            (file.as_str(), 11, Ok(11usize)),
+            (file.as_str(), 10, Err(WholeError::TooLong)),
+            (none.as_str(), 99, Err(WholeError::Missing)),
+            (through.as_str(), 99, Err(WholeError::Missing)),
+            (folder.as_str(), 99, Err(WholeError::ReadFault)),
+        ] {
+            let got = read_whole(alloc, &mut files, path, limit);
+            match want {
+                Ok(_) => assert!(rt; got == Ok(Vec::from_slice(alloc, text)?), "{path}"),
+                Err(error) => assert_eq!(rt; got, Err(error), "{path}"),
+            }
+        }
+        assert_eq!(rt; files.write(through.as_str(), text), PutAnswer::Failed);
+        assert_eq!(rt; files.write(folder.as_str(), text), PutAnswer::Failed);
+        assert_eq!(rt; (files.read_faults, files.write_faults), (1, 2));
+        fs::remove_dir_all(&rt, folder.as_str())?;
+        Ok(())
+    }
+
+    // Stands for the standard output.
+    #[derive(Drop)]
+    struct ToFile(File);
+
+    impl Print for ToFile {
+        fn print<D: Display + Drop>(&self, _value: D) -> io::Result<()> {
+            Err(io::Error::from(ErrorKind::Unsupported))
+        }
+
+        fn println<D: Display + Drop>(&self, _value: D) -> io::Result<()> {
+            Err(io::Error::from(ErrorKind::Unsupported))
+        }
+
+        fn write_all(&self, _bytes: &[u8]) -> io::Result<()> {
+            Err(io::Error::from(ErrorKind::Unsupported))
+        }
+
+        fn write_some(&self, bytes: &[u8]) -> io::Result<usize> {
+            (&self.0).write(bytes)
+        }
+    }
+
+    // A file that is open to write takes the bytes. One that is open to read takes none.
+    #[test]
+    fn real_sink(rt: HostRuntime) -> Result<(), Fail> {
+        let folder = new_folder(&rt, "outside-sink")?;
+        let file = folder.join(rt.alloc(), "file")?;
+        let mut out = OsSink::new(ToFile(fs::create(&rt, file.as_str())?));
+        assert_eq!(rt; write_all(&mut out, b"some "), Ok(()));
+        assert_eq!(rt; write_all(&mut out, b"bytes"), Ok(()));
+        assert_eq!(rt; out.write(b""), TakeAnswer::Took(0));
+        assert_eq!(rt; out.faults, 0);
+        let text = fs::read(&rt, file.as_str())?;
+        assert_eq!(rt; text.as_slice(), b"some bytes".as_slice());
+        let mut closed = OsSink::new(ToFile(fs::open(&rt, file.as_str())?));
+        assert_eq!(rt; write_all(&mut closed, b"lost"), Err(SinkError::WriteFault));
+        assert_eq!(rt; closed.write(b"lost"), TakeAnswer::Failed);
+        assert_eq!(rt; closed.faults, 2);
+        fs::remove_dir_all(&rt, folder.as_str())?;
+        Ok(())
+    }
+}
