@@ -6,11 +6,8 @@ use Rattle.std.proofs.lemmas.Bool.{cases_lt}
 use Rattle.std.specs.List.{position_or_len, before_first, after_first}
 use Rattle.texts.specs.Pieces.{Span, pieces, placed}
 use Rattle.texts.specs.Words.{has_bytes}
-use Rattle.texts.proofs.Cut.{pieces_first, length_first}
-
-not_true : (t : Bool) → not t ≡ true → t ≡ false
-not_true true h = absurd (let no : ⊥ = cc in no)
-not_true false h = refl
+use Rattle.texts.proofs.Joined.{not_true}
+use Rattle.texts.proofs.FirstPiece.{pieces_first, length_first}
 
 module _ (p : ℕ → Bool) where
   -- the pieces with bytes of a text that begins at a place
@@ -18,7 +15,7 @@ module _ (p : ℕ → Bool) where
   full_pieces start xs = filter has_bytes (placed start (pieces p xs))
 
   -- a separator in front goes
-  skip_one : (start b : ℕ) (bs : List ℕ) → p b ≡ true → full_pieces start (b ∷ bs) ≡ full_pieces (start + 1) bs
+  pub skip_one : (start b : ℕ) (bs : List ℕ) → p b ≡ true → full_pieces start (b ∷ bs) ≡ full_pieces (start + 1) bs
   skip_one start b bs separates =
       let same : start + 0 + 1 ≡ start + 1 = omega arith in
       rw (separates, same) refl
@@ -52,7 +49,7 @@ module _ (p : ℕ → Bool) where
       → filter has_bytes (record { start = start; text = text } ∷ rest) ≡ record { start = start; text = text } ∷ filter has_bytes rest
   kept start text c cs rest is = rw is refl
 
-  before_is : (b : ℕ) (bs : List ℕ) → p b ≡ false → before_first p (b ∷ bs) ≡ b ∷ before_first p bs
+  pub before_is : (b : ℕ) (bs : List ℕ) → p b ≡ false → before_first p (b ∷ bs) ≡ b ∷ before_first p bs
   before_is b bs is =
       let ahead : 1 + position_or_len p bs ≡ suc (position_or_len p bs) = omega arith in
       rw (is, ahead) refl
@@ -73,7 +70,7 @@ module _ (p : ℕ → Bool) where
       ∙ ap (λ spans. record { start = start; text = before_first p xs } ∷ spans) (placed_at ∙ behind start n xs (passes_at_first p xs 0)))
 
   -- what stands behind separators begins with none
-  bare_front : (xs : List ℕ) (c : ℕ) (cs : List ℕ) → drop (position_or_len fails xs) xs ≡ c ∷ cs → p c ≡ false
+  pub bare_front : (xs : List ℕ) (c : ℕ) (cs : List ℕ) → drop (position_or_len fails xs) xs ≡ c ∷ cs → p c ≡ false
   bare_front xs c cs is =
       let n = position_or_len fails xs in
       let within : n < length xs = omega (arith, length-drop n xs, ap length is) in

@@ -1,7 +1,7 @@
 use Rattle.std.proofs.Common.{◌≡◌, ◌+◌, length, take, ap, sym, ◌∙◌, arith, min}
 use Rattle.std.proofs.lemmas.Bool.Decides.{nat_tests}
 use Rattle.texts.specs.Lines.{without_return}
-use Rattle.texts.proofs.Cut.{line_first}
+use Rattle.texts.proofs.FirstPiece.{line_first}
 use Rattle.text_cut.proofs.Progress.{goes_on}
 use Rattle.text_cut.proofs.line.LinesIterator.next.Goals as goal
 
