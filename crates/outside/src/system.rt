@@ -107,7 +107,8 @@ impl<R: Print + Drop> Sink for OsSink<R> {
 #[cfg(test)]
 mod tests {
     use super::*;
-    use crate::{SinkError, WholeError, read_whole, write_all};
+    use crate::tests::assert_reads;
+    use crate::{SinkError, WholeError, write_all};
     use std::fmt::Display;
     use std::fs::File;
     use std::path::PathBuf;
@@ -139,17 +140,13 @@ mod tests {
         );
         assert_eq!(rt; files.write(file.as_str(), text), PutAnswer::Done);
         for (path, limit, want) in [
-            (file.as_str(), 11, Ok(11usize)),
+            (file.as_str(), 11, Ok(text.as_slice())),
             (file.as_str(), 10, Err(WholeError::TooLong)),
             (none.as_str(), 99, Err(WholeError::Missing)),
             (through.as_str(), 99, Err(WholeError::Missing)),
             (folder.as_str(), 99, Err(WholeError::ReadFault)),
         ] {
-            let got = read_whole(alloc, &mut files, path, limit);
-            match want {
-                Ok(_) => assert!(rt; got == Ok(Vec::from_slice(alloc, text)?), "{path}"),
-                Err(error) => assert_eq!(rt; got, Err(error), "{path}"),
-            }
+            assert_reads(&rt, alloc, &mut files, path, limit, want);
         }
         assert_eq!(rt; files.write(through.as_str(), text), PutAnswer::Failed);
         assert_eq!(rt; files.write(folder.as_str(), text), PutAnswer::Failed);

@@ -19,10 +19,27 @@ fn one_file(
     content: &[u8],
 ) -> Result<Vec<(String, Vec<u8>)>, AllocError> {
     let mut files = Vec::new(alloc);
-    let name = String::from_str(alloc, name)?;
-    let content = Vec::from_slice(alloc, content)?;
-    files.push((name, content))?;
+    files.push((
+        String::from_str(alloc, name)?,
+        Vec::from_slice(alloc, content)?,
+    ))?;
     Ok(files)
+}
+
+// What `read_whole` answers, where there is memory.
+pub(crate) fn assert_reads<F: Files>(
+    rt: &impl Abort,
+    alloc: Global,
+    files: &mut F,
+    name: &str,
+    limit: u64,
+    want: Result<&[u8], WholeError>,
+) {
+    match (read_whole(alloc, files, name, limit), want) {
+        (Ok(got), Ok(want)) => assert!(rt; got.as_slice() == want, "{name} within {limit}"),
+        (Err(got), Err(want)) => assert_eq!(rt; got, want, "{name} within {limit}"),
+        _ => panic!(rt; "{name} within {limit}"),
+    }
 }
 
 // A file of 150,000 bytes takes three reads and one that finds its end. A failed read is a fault, at each.
@@ -33,12 +50,12 @@ fn failed_read_is_a_fault(rt: HostRuntime) -> Result<(), Fail> {
     for k in 1..6u64 {
         let files = one_file(alloc, "a", &content)?;
         let mut files = MemFiles::new(files, vec![in alloc; k]?, Vec::new(alloc));
-        let got = read_whole(alloc, &mut files, "a", 150_000);
-        if k < 5 {
-            assert_eq!(rt; got, Err(WholeError::ReadFault), "at {k}");
+        let want = if k < 5 {
+            Err(WholeError::ReadFault)
         } else {
-            assert!(rt; got == Ok(content.clone()?), "at {k}");
-        }
+            Ok(content.as_slice())
+        };
+        assert_reads(&rt, alloc, &mut files, "a", 150_000, want);
     }
     Ok(())
 }
@@ -47,25 +64,19 @@ fn failed_read_is_a_fault(rt: HostRuntime) -> Result<(), Fail> {
 #[test]
 fn whole_within_limit(rt: HostRuntime) -> Result<(), Fail> {
     let alloc = rt.alloc();
+    let content = pattern(alloc, 65_536)?;
     let mut files = one_file(alloc, "a", b"")?;
-    for (name, size) in [("b", 65_536usize), ("b", 3), ("c", 65_537)] {
-        files.push((String::from_str(alloc, name)?, pattern(alloc, size)?))?;
-    }
+    files.push((String::from_str(alloc, "b")?, pattern(alloc, 65_536)?))?;
+    files.push((String::from_str(alloc, "b")?, pattern(alloc, 3)?))?;
     let mut files = SureFiles::new(files);
     for (name, limit, want) in [
-        ("a", 0, Ok(0)),
-        ("b", 65_536, Ok(65_536)),
+        ("a", 0, Ok(b"".as_slice())),
         ("b", 65_535, Err(WholeError::TooLong)),
-        ("c", 65_536, Err(WholeError::TooLong)),
-        ("c", 65_537, Ok(65_537usize)),
-        ("c", u64::MAX, Ok(65_537)),
-        ("d", 0, Err(WholeError::Missing)),
+        ("b", 65_536, Ok(content.as_slice())),
+        ("b", u64::MAX, Ok(content.as_slice())),
+        ("c", 0, Err(WholeError::Missing)),
     ] {
-        let got = read_whole(alloc, &mut files, name, limit);
-        match want {
-            Ok(size) => assert!(rt; got == Ok(pattern(alloc, size)?), "{name} within {limit}"),
-            Err(error) => assert_eq!(rt; got, Err(error), "{name} within {limit}"),
-        }
+        assert_reads(&rt, alloc, &mut files, name, limit, want);
     }
     Ok(())
 }
@@ -74,11 +85,8 @@ fn whole_within_limit(rt: HostRuntime) -> Result<(), Fail> {
 #[test]
 fn failed_write_changes_nothing(rt: HostRuntime) -> Result<(), Fail> {
     let alloc = rt.alloc();
-    let mut files = MemFiles::new(
-        one_file(alloc, "a", b"old")?,
-        Vec::new(alloc),
-        vec![in alloc; 2]?,
-    );
+    let files = one_file(alloc, "a", b"old")?;
+    let mut files = MemFiles::new(files, Vec::new(alloc), vec![in alloc; 2]?);
     for (name, content, want) in [
         ("a", "new", PutAnswer::Done),
         ("b", "lost", PutAnswer::Failed),
@@ -86,15 +94,21 @@ fn failed_write_changes_nothing(rt: HostRuntime) -> Result<(), Fail> {
     ] {
         assert_eq!(rt; files.write(name, content.as_bytes()), want, "{name}");
     }
-    let a = read_whole(alloc, &mut files, "a", 9);
-    assert!(rt; a == Ok(Vec::from_slice(alloc, b"newer")?));
-    assert_eq!(rt;
-        read_whole(alloc, &mut files, "b", 9),
-        Err(WholeError::Missing)
-    );
-    let mut sure = SureFiles::new(Vec::new(alloc));
-    assert_eq!(rt; sure.write("a", b"new"), PutAnswer::Done);
-    assert!(rt; read_whole(alloc, &mut sure, "a", 3) == Ok(Vec::from_slice(alloc, b"new")?));
+    assert_reads(&rt, alloc, &mut files, "a", 9, Ok(b"newer"));
+    assert_reads(&rt, alloc, &mut files, "b", 9, Err(WholeError::Missing));
+    Ok(())
+}
+
+#[test]
+fn sure_files_and_sink(rt: HostRuntime) -> Result<(), Fail> {
+    let alloc = rt.alloc();
+    let mut files = SureFiles::new(Vec::new(alloc));
+    assert_eq!(rt; files.write("a", b"text"), PutAnswer::Done);
+    assert_reads(&rt, alloc, &mut files, "a", 4, Ok(b"text"));
+    let mut out = SureSink::new(alloc);
+    assert_eq!(rt; write_all(&mut out, b"some "), Ok(()));
+    assert_eq!(rt; write_all(&mut out, b"bytes"), Ok(()));
+    assert_eq!(rt; out.written(), b"some bytes".as_slice());
     Ok(())
 }
 
@@ -102,21 +116,15 @@ fn failed_write_changes_nothing(rt: HostRuntime) -> Result<(), Fail> {
 #[test]
 fn failed_sink_holds_a_prefix(rt: HostRuntime) -> Result<(), Fail> {
     let alloc = rt.alloc();
-    let text = b"five!";
-    for j in 1..7u64 {
+    for (j, want, written) in [
+        (1, Err(SinkError::WriteFault), b"".as_slice()),
+        (2, Err(SinkError::WriteFault), b"t".as_slice()),
+        (3, Err(SinkError::WriteFault), b"tw".as_slice()),
+        (4, Ok(()), b"two".as_slice()),
+    ] {
         let mut out = MemSink::new(alloc, 1, vec![in alloc; j]?);
-        let got = write_all(&mut out, text);
-        let (want, size) = if j < 6 {
-            (Err(SinkError::WriteFault), j as usize - 1)
-        } else {
-            (Ok(()), 5)
-        };
-        assert_eq!(rt; got, want, "at {j}");
-        assert_eq!(rt; out.written(), &text[..size], "at {j}");
+        assert_eq!(rt; write_all(&mut out, b"two"), want, "at {j}");
+        assert_eq!(rt; out.written(), written, "at {j}");
     }
-    let mut out = SureSink::new(alloc);
-    assert_eq!(rt; write_all(&mut out, text), Ok(()));
-    assert_eq!(rt; write_all(&mut out, text), Ok(()));
-    assert_eq!(rt; out.written(), b"five!five!".as_slice());
     Ok(())
 }
