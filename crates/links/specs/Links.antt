@@ -16,10 +16,10 @@ pub record Routing : Type 0 where
 abbrev pub Drives : Routing → ℕ → ℕ → Type 0
 Drives r x w = In r.links (record { source = x; sink = w })
 
--- from a wire to another in none or more steps
-pub data Reaches (Step : ℕ → ℕ → Type 0) (a : ℕ) : ℕ → Type 0 where
+-- from one to another in none or more steps
+pub data Reaches {X : Type 0} (Step : X → X → Type 0) (a : X) : X → Type 0 where
   here : Reaches Step a a
-  onto : {b c : ℕ} → Reaches Step a b → Step b c → Reaches Step a c
+  onto : {b c : X} → Reaches Step a b → Step b c → Reaches Step a c
 
 -- v is w, or is reached from w along links
 abbrev pub Below : Routing → ℕ → ℕ → Type 0

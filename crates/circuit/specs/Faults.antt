@@ -1,0 +1,23 @@
+-- Faults: wires and cells that may carry anything from now on. (Our own.)
+use Rattle.std.specs.Prelude.{◌≡◌, ℕ, List, [], ◌⊎◌}
+use Rattle.words.specs.Members.{In}
+use Rattle.records.specs.Side.{Domain}
+use Rattle.circuit.specs.Triples.{LiesIn}
+use Rattle.circuit.specs.Circuits.{Circuit}
+use Rattle.circuit.specs.Domains.{HasDomain}
+
+-- the disturbed wires and the names of the touched cells
+pub record Fault : Type 0 where
+  pub disturbed : List ℕ
+  pub touched : List (List ℕ)
+
+abbrev pub no_fault : Fault
+no_fault = record { disturbed = []; touched = [] }
+
+-- a domain of the fault: that of a disturbed wire or of a touched cell
+abbrev pub FaultHas : Circuit → Fault → Domain → Type 0
+FaultHas c f d = ((w : ℕ) × (In f.disturbed w × HasDomain c w d)) ⊎ ((name : List ℕ) × (In f.touched name × LiesIn c.cells name d))
+
+-- the fault has one domain at most
+abbrev pub WithinOneDomain : Circuit → Fault → Type 0
+WithinOneDomain c f = (d e : Domain) → FaultHas c f d → FaultHas c f e → d ≡ e

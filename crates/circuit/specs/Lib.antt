@@ -1,0 +1,16 @@
+pub mod Cells
+pub mod Parts
+pub mod Pins
+pub mod Triples
+pub mod Circuits
+pub mod Domains
+pub mod WellFormed
+pub mod Worlds
+pub mod Faults
+pub mod Runs
+pub mod Choices
+pub mod Tables
+pub mod Registers
+pub mod Triplicated
+pub mod Right
+pub mod Designs

@@ -1,0 +1,4 @@
+pub mod Members
+pub mod Walks
+pub mod Below
+pub mod Feeds
