@@ -1,0 +1,4 @@
+pub mod Configured
+pub mod After
+pub mod Effect
+pub mod Safe
