@@ -3,3 +3,7 @@ pub mod Prefixes
 pub mod Digits
 pub mod Relative
 pub mod WireNames
+pub mod SameBits
+pub mod Chosen
+pub mod Orders
+pub mod Sorted

@@ -6,21 +6,6 @@ use Rattle.std.proofs.lemmas.Bool.{false≢true, and_parts, and_from, or_cases}
 use Rattle.words.specs.Members.{In}
 
 module _ {X : Type 0} where
-  pub in_left : (xs ys : List X) (x : X) → In xs x → In (xs ++ ys) x
-  in_left [] ys x i = absurd i
-  in_left (z ∷ xs) ys x i = elim i [ inl e ↦ inl e | inr j ↦ inr (in_left xs ys x j) ]
-
-  pub in_right : (xs ys : List X) (x : X) → In ys x → In (xs ++ ys) x
-  in_right [] ys x i = i
-  in_right (z ∷ xs) ys x i = inr (in_right xs ys x i)
-
-  pub in_either : (xs ys : List X) (x : X) → In (xs ++ ys) x → In xs x ⊎ In ys x
-  in_either [] ys x i = inr i
-  in_either (z ∷ xs) ys x i = elim i [
-    | inl e ↦ inl (inl e)
-    | inr j ↦ elim (in_either xs ys x j) [ inl k ↦ inl (inr k) | inr k ↦ inr k ]
-  ]
-
   pub in_filter_from : (t : X → Bool) (xs : List X) (x : X) → In (filter t xs) x → In xs x × (t x ≡ true)
   in_filter_from t [] x i = absurd i
   in_filter_from t (y ∷ ys) x i = go (t y) refl i (in_filter_from t ys x)
@@ -93,31 +78,6 @@ in_cons_option_back None ys y i = i
 in_cons_option_back (Some z) ys y i = inr i
 
 module _ {X Y : Type 0} where
-  pub in_map_to : (f : X → Y) (xs : List X) (x : X) → In xs x → In (map f xs) (f x)
-  in_map_to f [] x i = absurd i
-  in_map_to f (y ∷ ys) x i = elim i [ inl s ↦ inl (ap f s) | inr j ↦ inr (in_map_to f ys x j) ]
-
-  pub in_map_from : (f : X → Y) (xs : List X) (y : Y) → In (map f xs) y → (x : X) × In xs x × (f x ≡ y)
-  in_map_from f [] y i = absurd i
-  in_map_from f (x ∷ xs) y i = elim i [
-    | inl s ↦ (x, inl refl, s)
-    | inr j ↦ (let r = in_map_from f xs y j in (r.0, inr r.1, r.2))
-  ]
-
-  pub in_flat_map_to : (f : X → List Y) (xs : List X) (x : X) (y : Y) → In xs x → In (f x) y → In (flat_map f xs) y
-  in_flat_map_to f [] x y i j = absurd i
-  in_flat_map_to f (z ∷ zs) x y i j = elim i [
-    | inl s ↦ in_left (f z) (flat_map f zs) y (subst (λ w. In (f w) y) (sym s) j)
-    | inr k ↦ in_right (f z) (flat_map f zs) y (in_flat_map_to f zs x y k j)
-  ]
-
-  pub in_flat_map_from : (f : X → List Y) (xs : List X) (y : Y) → In (flat_map f xs) y → (x : X) × In xs x × In (f x) y
-  in_flat_map_from f [] y i = absurd i
-  in_flat_map_from f (x ∷ xs) y i = elim (in_either (f x) (flat_map f xs) y i) [
-    | inl j ↦ (x, inl refl, j)
-    | inr j ↦ (let r = in_flat_map_from f xs y j in (r.0, inr r.1, r.2))
-  ]
-
   pub in_filter_map_to : (f : X → Option Y) (xs : List X) (x : X) (y : Y) → In xs x → f x ≡ Some y → In (filter_map f xs) y
   in_filter_map_to f [] x y i e = absurd i
   in_filter_map_to f (z ∷ zs) x y i e = elim i [
