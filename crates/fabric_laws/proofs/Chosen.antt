@@ -1,7 +1,6 @@
 -- What is chosen, by a list and by a test, and what the lists of links and of bits hold.
-use Rattle.std.proofs.Common.{◌≡◌, ◌++◌, ℕ, ◌≤◌, Bool, true, ◌⊎◌, ◌↔◌, inl, inr, List, length, map, filter, nat_le, refl, sym, ap, subst, ◌∙◌, eq-eqb}
+use Rattle.std.proofs.Common.{◌≡◌, ◌++◌, ℕ, ◌≤◌, Bool, true, ◌⊎◌, ◌↔◌, inl, inr, List, length, map, filter, nat_le, sym, subst, eq-eqb}
 use Rattle.std.specs.Prelude.{not, ◌==◌, ◌||◌}
-use Rattle.std.specs.List.{list_all}
 use Rattle.std.proofs.lemmas.Bool.{and_parts, and_from, le-leb, leb-true, eqb-true}
 use Rattle.words.specs.Members.{In}
 use Rattle.links.specs.Links.{Link}
@@ -34,7 +33,7 @@ module _ {X : Type 0} (pattern : X → List PatternBit) (image : Bits) (origin :
   pub best_to : (x : X) → IsBest pattern image origin xs x → is_best_fit pattern image origin xs x ≡ true
   best_to x b = and_from (fits image origin (pattern x)) (is_longest pattern image origin xs x) b.fit
       (all_to (λ other. not (fits image origin (pattern other)) || nat_le (length (pattern other)) (length (pattern x))) xs (λ y i.
-        imp_to (fits image origin (pattern y)) (nat_le (length (pattern y)) (length (pattern x))) (λ f. le-leb (length (pattern y)) (length (pattern x)) (b.longest y i f))))
+      imp_to (fits image origin (pattern y)) (nat_le (length (pattern y)) (length (pattern x))) (λ f. le-leb (length (pattern y)) (length (pattern x)) (b.longest y i f))))
 
   pub best_list : (x : X) → In (best_fits pattern image origin xs) x
       ↔ (In xs x × (fits image origin (pattern x) ≡ true) × ((y : X) → In xs y → fits image origin (pattern y) ≡ true → length (pattern y) ≤ length (pattern x)))
@@ -80,7 +79,7 @@ links_law g image link = arc_links g (is_chosen g image) link
 pub mux_bits_law : (g : Graph) (b : DeviceBit) → (is_mux_bit g b ≡ true) ↔ ((a : GraphArc) × (In g.arcs a × In (bits_named a.origin a.arc.bits) b))
 mux_bits_law g b = (
   (λ h. let r = any_from (same_bit b) (mux_bits g) h in
-  let s = of_flat_map (λ a. bits_named a.origin a.arc.bits) g.arcs r.0 r.1 in
-  (s.0, (s.1.0, subst (In (bits_named s.0.origin s.0.arc.bits)) (sym (same_is b r.0 r.2)) s.1.1))),
+      let s = of_flat_map (λ a. bits_named a.origin a.arc.bits) g.arcs r.0 r.1 in
+      (s.0, (s.1.0, subst (In (bits_named s.0.origin s.0.arc.bits)) (sym (same_is b r.0 r.2)) s.1.1))),
   (λ h. any_to (same_bit b) (mux_bits g) b (in_flat_map (λ a. bits_named a.origin a.arc.bits) g.arcs h.0 b h.1.0 h.1.1) (same_refl b)),
 )

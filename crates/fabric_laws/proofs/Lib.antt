@@ -7,3 +7,6 @@ pub mod SameBits
 pub mod Chosen
 pub mod Orders
 pub mod Sorted
+pub mod Numbered
+pub mod Graphs
+pub mod Standing

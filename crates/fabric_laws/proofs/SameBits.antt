@@ -1,6 +1,6 @@
 -- Device bits can be told apart.
-use Rattle.std.proofs.Common.{◌≡◌, true, refl, ap, ◌∙◌, eq-eqb}
-use Rattle.std.specs.Prelude.{◌==◌, ◌&&◌}
+use Rattle.std.proofs.Common.{◌≡◌, true, refl, eq-eqb}
+use Rattle.std.specs.Prelude.{◌==◌}
 use Rattle.std.proofs.lemmas.Bool.{and_parts, and_from, eqb-true}
 use Rattle.patterns.specs.Bits.{DeviceBit, same_bit}
 
