@@ -2,3 +2,4 @@ pub mod Configured
 pub mod After
 pub mod Effect
 pub mod Safe
+pub mod Roots
