@@ -1,1 +1,4 @@
 pub mod Roots
+pub mod Decided
+pub mod Upstream
+pub mod Decide

@@ -1,8 +1,8 @@
 -- Chains of counting drivers don't matter for domains, and a wire without a feed stands on none.
-use Rattle.std.proofs.Common.{ℕ, ◌⊎◌, ◌↔◌, inl, inr}
+use Rattle.std.proofs.Common.{ℕ, ◌↔◌, inl, inr}
 use Rattle.patterns.specs.Bits.{Bits}
 use Rattle.records.specs.Side.{Domain}
-use Rattle.links.specs.Links.{Routing, Reaches, here, onto, Counting, Fed, Feeds, IsClean, Upstream}
+use Rattle.links.specs.Links.{Routing, here, onto, Fed, Feeds, IsClean, Upstream}
 use Rattle.links.proofs.Feeds.{feeds_on, one_feed}
 use Rattle.fabric.specs.Links.{routing_of}
 use Rattle.circuit.specs.Circuits.{Circuit}
