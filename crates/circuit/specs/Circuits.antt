@@ -35,13 +35,11 @@ pub record IsConnection (c : Circuit) (x : Connection) : Type 0 where
   pub from : source.part ≡ x.source
   pub to : pin.ref ≡ x.pin
 
--- a table reads another one: that one's output feeds one of its pins
+-- a table reads a part: that part's output feeds one of its pins
 pub record Reads (c : Circuit) (u s : Source) : Type 0 where
-  pub upper : TableCell
-  pub lower : TableCell
-  pub from : u.kind ≡ OfTable upper
-  pub to : s.kind ≡ OfTable lower
+  pub table : TableCell
+  pub is_table : s.kind ≡ OfTable table
   pub listed : In (sources c.cells) s
   pub pin : Pin
-  pub takes : In (table_pins s.part lower) pin
+  pub takes : In (table_pins s.part table) pin
   pub connects : Connects c u pin

@@ -10,7 +10,7 @@ use Rattle.circuit.specs.Parts.{PartRef, OfTable, OfRegister, Source, sources, o
 use Rattle.circuit.specs.Pins.{Pin, bit_pins}
 use Rattle.circuit.specs.Triples.{PartTriple, triple_of}
 use Rattle.circuit.specs.Circuits.{Circuit, IsRead}
-use Rattle.circuit.specs.Worlds.{Clock, World, table_output, CountsAs, carried}
+use Rattle.circuit.specs.Worlds.{Clock, World, table_output, bit_of, CountsAs, carried}
 use Rattle.circuit.specs.Faults.{Fault}
 
 -- The values of one cycle: a relation between wires and parts, with no order of evaluation. What it doesn't
@@ -20,7 +20,7 @@ pub record IsCycle (c : Circuit) (f : Fault) (input : Triple → Bool) (w : Worl
   pub driven : (a b : ℕ) → (In f.disturbed a → ⊥) → Counting c.routing b a → w.wire a ≡ w.wire b
   pub outputs : (s : Source) → In (sources c.cells) s → (In f.disturbed s.out → ⊥) → (In f.touched s.part.cell → ⊥) → w.wire s.out ≡ carried c.side input w s
   -- a table gives the bit of its word at the address of its pins
-  pub tables : (s : Source) (t : TableCell) → In (sources c.cells) s → s.kind ≡ OfTable t → w.part s.part ≡ table_output s.part t w.pin
+  pub tables : (s : Source) (t : TableCell) → In (sources c.cells) s → s.kind ≡ OfTable t → w.part s.part ≡ table_output s.part t (bit_of w)
   pub pins : (s : Source) (p : Pin) → In (sources c.cells) s → In (bit_pins s) p → CountsAs (w.wire p.wire) (w.pin p.ref)
   -- an output pad shows what its wire carries
   pub shows : (p : PadCell) → In (output_pads c.cells) p → (In f.touched p.name → ⊥) → w.shown p.name ≡ w.wire p.wire

@@ -4,9 +4,10 @@ use Rattle.words.specs.Members.{In}
 use Rattle.records.specs.Side.{Domain}
 use Rattle.circuit.specs.Cells.{TableCell}
 use Rattle.circuit.specs.Parts.{Kind, OfTable, OfRegister, OfInput, OfClock, Source}
-use Rattle.circuit.specs.Pins.{PinRef, Pin, table_pins}
+use Rattle.circuit.specs.Pins.{Pin, table_pins}
 use Rattle.circuit.specs.Triples.{PartTriple, triple_of}
 use Rattle.circuit.specs.Circuits.{Circuit, Connects}
+use Rattle.circuit.specs.Domains.{HasDomain}
 use Rattle.circuit.specs.Worlds.{word_bit, table_output}
 
 -- The output of a table is the same for both bits at this pin, whatever stands at the others. No other part
@@ -18,24 +19,20 @@ Ignores OfInput n = ⊥
 Ignores OfClock n = ⊥
 
 -- an assignment gives each pin of a table that a part feeds the bit of that part's triple
-abbrev pub Assigned : Circuit → (PartTriple → Bool) → Source → TableCell → (PinRef → Bool) → Type 0
-Assigned c bits s t x = (p : Pin) (a : Source) → In (table_pins s.part t) p → Connects c a p → x p.ref ≡ bits (triple_of c.side a.part)
-
--- a part of this domain feeds the pin
-abbrev pub FedFrom : Circuit → Domain → Pin → Type 0
-FedFrom c e p = (a : Source) × (Connects c a p × (a.domain ≡ e))
+abbrev pub Assigned : Circuit → (PartTriple → Bool) → Source → TableCell → (Pin → Bool) → Type 0
+Assigned c bits s t x = (p : Pin) (a : Source) → In (table_pins s.part t) p → Connects c a p → x p ≡ bits (triple_of c.side a.part)
 
 -- the same bits but at pins fed from a domain
-abbrev pub SameBut : Circuit → Domain → Source → TableCell → (PinRef → Bool) → (PinRef → Bool) → Type 0
-SameBut c e s t x y = (p : Pin) → In (table_pins s.part t) p → (FedFrom c e p → ⊥) → x p.ref ≡ y p.ref
+abbrev pub SameBut : Circuit → Domain → Source → TableCell → (Pin → Bool) → (Pin → Bool) → Type 0
+SameBut c e s t x y = (p : Pin) → In (table_pins s.part t) p → (HasDomain c p.wire e → ⊥) → x p ≡ y p
 
 -- For each assignment of bits to the triples that feed the table and each domain other than its own, the output
 -- stays when the pins fed from that domain take any bits.
 abbrev pub Masks : Circuit → Source → TableCell → Type 0
-Masks c s t = (e : Domain) (bits : PartTriple → Bool) (x y : PinRef → Bool) → e ≢ s.domain → Assigned c bits s t x → SameBut c e s t x y
+Masks c s t = (e : Domain) (bits : PartTriple → Bool) (x y : Pin → Bool) → e ≢ s.domain → Assigned c bits s t x → SameBut c e s t x y
     → table_output s.part t x ≡ table_output s.part t y
 
 -- two tables give equal outputs for each assignment of bits to the triples that feed them
 abbrev pub TablesAlike : Circuit → Source → Source → TableCell → TableCell → Type 0
-TablesAlike c s u t v = (bits : PartTriple → Bool) (x y : PinRef → Bool) → Assigned c bits s t x → Assigned c bits u v y
+TablesAlike c s u t v = (bits : PartTriple → Bool) (x y : Pin → Bool) → Assigned c bits s t x → Assigned c bits u v y
     → table_output s.part t x ≡ table_output u.part v y

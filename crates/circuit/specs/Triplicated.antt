@@ -70,7 +70,7 @@ pub record CopiesAlike (c : Circuit) : Type 0 where
 abbrev pub HasOutputs : Circuit → Type 0
 HasOutputs c = (t : Triple) × In c.side.outputs t
 
--- No table reaches itself along connections through tables.
+-- No table reaches itself along connections through tables. (Each part that reaches itself in this way is a table.)
 abbrev pub NoTableLoop : Circuit → Type 0
 NoTableLoop c = (s u : Source) → Reads c s u → Reaches (Reads c) u s → ⊥
 

@@ -4,7 +4,7 @@ use Rattle.std.specs.Int.{bit_at}
 use Rattle.records.specs.Side.{Triple, Side}
 use Rattle.circuit.specs.Cells.{TableCell}
 use Rattle.circuit.specs.Parts.{PartRef, Kind, OfTable, OfRegister, OfInput, OfClock, Source}
-use Rattle.circuit.specs.Pins.{PinRef, table_pins}
+use Rattle.circuit.specs.Pins.{PinRef, Pin, table_pins}
 use Rattle.circuit.specs.Triples.{triple_with}
 
 -- a wire carries 0, 1 or `clock`
@@ -30,8 +30,12 @@ abbrev pub word_bit : ℕ → List Bool → Bool
 word_bit word bits = bit_at word (address bits) == 1
 
 -- what a table gives, by the bits of its pins
-abbrev pub table_output : PartRef → TableCell → (PinRef → Bool) → Bool
-table_output part t bits = word_bit t.word (map (λ p. bits p.ref) (table_pins part t))
+abbrev pub table_output : PartRef → TableCell → (Pin → Bool) → Bool
+table_output part t bits = word_bit t.word (map bits (table_pins part t))
+
+-- the bit that a pin counts as in a world
+abbrev pub bit_of : World → Pin → Bool
+bit_of w p = w.pin p.ref
 
 -- a pin that carries `clock` counts as either bit, another one as what it carries
 abbrev pub CountsAs : Value → Bool → Type 0

@@ -1,0 +1,12 @@
+pub mod Same
+pub mod Parts
+pub mod Sound
+pub mod Depth
+pub mod Assign
+pub mod Words
+pub mod Cycle
+pub mod Copies
+pub mod Outside
+pub mod Registers
+pub mod Steps
+pub mod OutputsRight

@@ -1,0 +1,33 @@
+//! Laws of triplicated circuits. There is no code but laws, each the contract of a function with an empty body.
+#![tactic(auto)]
+
+ghost use Rattle.circuit.specs.Circuits.{Circuit};
+ghost use Rattle.circuit.specs.Faults.{no_fault, Fault, WithinOneDomain};
+ghost use Rattle.circuit.specs.Right.{RightOutside, TwoAreRight};
+ghost use Rattle.circuit.specs.Runs.{IsRun};
+ghost use Rattle.circuit.specs.Triples.{IsEntry, PartTriple};
+ghost use Rattle.circuit.specs.Triplicated.{IsTriplicated};
+ghost use Rattle.circuit.specs.WellFormed.{IsWellFormed};
+ghost use Rattle.circuit.specs.Worlds.{World};
+ghost use Rattle.links.specs.Links.{IsClean};
+ghost use Rattle.records.specs.Side.{Domain, Triple};
+ghost use Rattle.std.specs.Prelude.{Bool, List, ℕ, ◌<◌, ◌≡◌};
+ghost use Rattle.words.specs.Members.{In};
+
+/// Masking: where the domains of a fault are at most one, there is one domain such that in every faulty run
+/// and every cycle each output pad outside it is right.
+pub fn masking()
+    ensures { (c : Circuit) → IsClean c.routing → IsWellFormed c → IsTriplicated c → (f : Fault) → WithinOneDomain c f → (d : Domain) × RightOutside c f d }
+{}
+
+/// So at least two of the three pads of each output triple are right.
+pub fn two_of_three()
+    ensures { (c : Circuit) → IsClean c.routing → IsWellFormed c → IsTriplicated c → (f : Fault) → WithinOneDomain c f → TwoAreRight c f }
+{}
+
+/// In every undisturbed run and every cycle the pads of an output triple show the same.
+pub fn outputs_agree()
+    ensures { (c : Circuit) → IsClean c.routing → IsWellFormed c → IsTriplicated c
+        → (start : PartTriple → Bool) (input : ℕ → Triple → Bool) (n : ℕ) (run : ℕ → World) → IsRun c no_fault start input n run → (t : ℕ) → t < n
+        → (o : Triple) (x y : List ℕ) → In c.side.outputs o → IsEntry o x → IsEntry o y → (run t).shown x ≡ (run t).shown y }
+{}
