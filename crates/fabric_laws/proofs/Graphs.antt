@@ -77,7 +77,7 @@ arc_of device wires a h =
     arc_of_tile device wires r.0.0 r.0.1 a (slice_get device.grid.tiles r.0.1.tile) refl r.1.0 r.1.1
 
 -- arcs of one place in one mux are one arc
-one_arc : (device : Device) (wires : List Wire) (a b : GraphArc) → IsArcOf device wires a → IsArcOf device wires b → OnePlace a b → b ≡ a
+pub one_arc : (device : Device) (wires : List Wire) (a b : GraphArc) → IsArcOf device wires a → IsArcOf device wires b → OnePlace a b → b ≡ a
 one_arc device wires a b p q one i =
     record { mux = muxes i; place = places i; source = sources i; sink = sinks i; origin = origins i; arc = arcs i }
   where

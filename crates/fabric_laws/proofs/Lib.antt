@@ -10,3 +10,4 @@ pub mod Sorted
 pub mod Numbered
 pub mod Graphs
 pub mod Standing
+pub mod Agreeing

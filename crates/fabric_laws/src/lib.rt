@@ -1,6 +1,7 @@
 //! Laws of the routing fabric, each the contract of a function with an empty body.
 #![tactic(auto)]
 
+ghost use Rattle.fabric.specs.Agree.{ArcsAgree};
 ghost use Rattle.fabric.specs.Chosen.{best_fits};
 ghost use Rattle.fabric.specs.Device.{Device};
 ghost use Rattle.fabric.specs.Graph.{Graph, GraphArc, GraphMux};
@@ -9,11 +10,13 @@ ghost use Rattle.fabric.specs.Links.{is_chosen, link_of, links_of};
 ghost use Rattle.fabric.specs.MuxBits.{bits_named, is_mux_bit};
 ghost use Rattle.fabric.specs.WireNames.{IsWireName, WireName};
 ghost use Rattle.fabric.specs.WireOfName.{wire_of_name};
+ghost use Rattle.fabric_laws.specs.PlainAgree.{arcs_agree};
 ghost use Rattle.fabric_laws.specs.PlainGraph.{graph_of};
 ghost use Rattle.fabric_laws.specs.Stands.{ArcStands, HasArc, MuxStands, NamesArc};
 ghost use Rattle.links.specs.Links.{Link};
 ghost use Rattle.patterns.specs.Bits.{Bits, DeviceBit, PatternBit};
 ghost use Rattle.patterns.specs.Fits.{fits};
+ghost use Rattle.records.specs.Config.{Config};
 ghost use Rattle.records.specs.Database.{Arc, Mux};
 ghost use Rattle.records.specs.Profile.{Rules};
 ghost use Rattle.std.specs.Prelude.{List, length, true, ◌≡◌, ◌↔◌, ◌≤◌, ◌⊎◌, ℕ};
@@ -77,4 +80,12 @@ pub fn arcs_stand()
 pub fn named_arcs_are_there()
     ensures { (device : Device) (g : Graph) → IsGraph device g
         → (number : ℕ) (mux : Mux) (place : ℕ) (arc : Arc) → NamesArc device number mux place arc → HasArc g number mux place arc }
+{}
+
+/// Whether the arcs agree can be tested.
+pub fn agreement_is_tested()
+    ensures {
+        (device : Device) (g : Graph) → IsGraph device g
+        → (image : Bits) (config : Config) → (arcs_agree g image config ≡ true) ↔ ArcsAgree g image config
+    }
 {}
