@@ -36,10 +36,10 @@ pub chosen_by_longest : (bits : List DeviceBit) (mux : Mux) → sources_of (bits
 chosen_by_longest bits mux =
     ap (map (λ arc. arc.source))
     (same_filter
-      (λ arc. fits (bits_of_list bits) no_origin arc.bits && nat_le (longest_fit (bits_of_list bits) no_origin mux.arcs) (length arc.bits))
-      (λ arc. fits (bits_of_list bits) no_origin arc.bits && is_longest (λ a. a.bits) (bits_of_list bits) no_origin mux.arcs arc)
-      mux.arcs
-      (λ arc. ap (λ b. fits (bits_of_list bits) no_origin arc.bits && b) (sym (at_most (bits_of_list bits) mux.arcs (length arc.bits)))))
+    (λ arc. fits (bits_of_list bits) no_origin arc.bits && nat_le (longest_fit (bits_of_list bits) no_origin mux.arcs) (length arc.bits))
+    (λ arc. fits (bits_of_list bits) no_origin arc.bits && is_longest (λ a. a.bits) (bits_of_list bits) no_origin mux.arcs arc)
+    mux.arcs
+    (λ arc. ap (λ b. fits (bits_of_list bits) no_origin arc.bits && b) (sym (at_most (bits_of_list bits) mux.arcs (length arc.bits)))))
 
 -- where there is no source, `-` stands in its place
 pub dashed : (sources : List (List ℕ)) → has_any sources ≡ true → or_dash sources ≡ sources

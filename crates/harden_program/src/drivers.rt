@@ -27,9 +27,11 @@ fn is_set(bits: &[DeviceBit], bit: &PatternBit) -> bool
 fn fits(bits: &[DeviceBit], pattern: &[PatternBit]) -> bool
     ensures { result ≡ fits_of (bits_of_list bits.now) no_origin pattern.now }
 {
-    pattern
-        .iter()
-        .all(|bit| if bit.set { is_set(bits, bit) } else { !is_set(bits, bit) })
+    pattern.iter().all(|bit| if bit.set {
+        is_set(bits, bit)
+    } else {
+        !is_set(bits, bit)
+    })
 }
 
 // The most bits of an arc that fits, or 0 where none does.

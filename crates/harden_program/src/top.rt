@@ -72,11 +72,7 @@ fn reply_to_file<F: Files>(
 }
 
 // The reply to the words. Files are read, and none is written.
-fn reply_to<F: Files>(
-    alloc: Global,
-    words: &[String],
-    files: &mut F,
-) -> Result<Reply, AllocError>
+fn reply_to<F: Files>(alloc: Global, words: &[String], files: &mut F) -> Result<Reply, AllocError>
     ensures told { F.told files.old → F.told files.new }
     ensures content { F.file files.new ≡ F.file files.old }
     ensures reply { let reading = words_of.reading_of (map string_bytes words.now) in
