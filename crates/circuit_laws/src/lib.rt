@@ -5,11 +5,12 @@ ghost use Rattle.circuit.specs.Choices.{Agree, Follows};
 ghost use Rattle.circuit.specs.Circuits.{Circuit};
 ghost use Rattle.circuit.specs.Cells.{PadCell};
 ghost use Rattle.circuit.specs.Designs.{SameDesign};
+ghost use Rattle.circuit.specs.Domains.{HasDomain};
 ghost use Rattle.circuit.specs.Faults.{no_fault, Fault, WithinOneDomain};
 ghost use Rattle.circuit.specs.Parts.{output_pads};
 ghost use Rattle.circuit.specs.Right.{RightOutside, TwoAreRight};
 ghost use Rattle.circuit.specs.Runs.{IsRun};
-ghost use Rattle.circuit.specs.Triples.{IsEntry, PartTriple};
+ghost use Rattle.circuit.specs.Triples.{IsEntry, LiesIn, PartTriple};
 ghost use Rattle.circuit.specs.Triplicated.{IsTriplicated, NoTableLoop};
 ghost use Rattle.circuit.specs.WellFormed.{IsWellFormed};
 ghost use Rattle.circuit.specs.Worlds.{World};
@@ -17,6 +18,12 @@ ghost use Rattle.links.specs.Links.{IsClean};
 ghost use Rattle.records.specs.Side.{Domain, Triple};
 ghost use Rattle.std.specs.Prelude.{Bool, List, ℕ, ◌<◌, ◌↔◌, ◌≡◌};
 ghost use Rattle.words.specs.Members.{In};
+
+/// A wire has one domain at most, and so has a named cell.
+pub fn one_domain()
+    ensures of_wires { (c : Circuit) → IsWellFormed c → (w : ℕ) (d e : Domain) → HasDomain c w d → HasDomain c w e → d ≡ e }
+    ensures of_cells { (c : Circuit) → IsWellFormed c → (name : List ℕ) (d e : Domain) → LiesIn c.cells name d → LiesIn c.cells name e → d ≡ e }
+{}
 
 /// Masking: where the domains of a fault are at most one, there is one domain such that in every faulty run
 /// and every cycle each output pad outside it is right.
