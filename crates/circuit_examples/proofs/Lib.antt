@@ -9,3 +9,4 @@ pub mod ToggleMeets
 pub mod ExchangeMeets
 pub mod Broken
 pub mod Faulty
+pub mod Rerouted

@@ -8,7 +8,7 @@ use Rattle.circuit.specs.Cells.{TableCell, InputWire, InputZero, InputOne, Regis
 use Rattle.circuit.specs.Circuits.{Circuit}
 use Rattle.circuit.specs.Faults.{Fault}
 
--- the wires of column n: the pins A to D and CK of the slice, its outputs F and Q, and the wires H0, H1 and H2 beside it
+-- the wires of column n: the pins A to D and CK of the slice, its outputs F and Q, and the wires H0 to H4 beside it
 abbrev pub a : ℕ → ℕ
 a n = 100 * n
 
@@ -38,6 +38,12 @@ h1 n = 100 * n + 8
 
 abbrev pub h2 : ℕ → ℕ
 h2 n = 100 * n + 9
+
+abbrev pub h3 : ℕ → ℕ
+h3 n = 100 * n + 14
+
+abbrev pub h4 : ℕ → ℕ
+h4 n = 100 * n + 15
 
 -- the `in` and `out` wires of the pad above, the `in` wire of the clock pad below, and the clock wire that it drives
 abbrev pub pi : ℕ → ℕ
@@ -130,6 +136,19 @@ toggle = toggle_with inverted_majority
 -- the toggle without the link from the first clock wire to the pin CK of a0
 abbrev pub toggle_unclocked : Circuit
 toggle_unclocked = record toggle { routing = record { links = filter (λ l. not (l.sink == ck 1)) toggle_links; outputs = toggle_outputs } }
+
+-- The toggle on other wires: in column 3 the pins A and B are reached over H3 and H4, and H4 carries the register of
+-- column 1 to it.
+abbrev pub rerouted_links : List Link
+rerouted_links =
+    column 1 ++ column 2
+    ++ (link (q 3) (po 3) ∷ link (h3 3) (a 3) ∷ link (h4 3) (b 3) ∷ link (h2 3) (c 3) ∷ link (g_ck 3) (ck 3) ∷ link (ki 3) (g_ck 3)
+    ∷ link (h0 2) (h0 1) ∷ link (q 1) (h1 1) ∷ link (h2 2) (h2 1) ∷ link (q 1) (h4 1)
+    ∷ link (h0 3) (h0 2) ∷ link (h1 1) (h1 2) ∷ link (q 2) (h2 2) ∷ link (h4 1) (h4 2)
+    ∷ link (q 3) (h0 3) ∷ link (q 3) (h3 3) ∷ link (h2 2) (h2 3) ∷ link (h4 2) (h4 3) ∷ [])
+
+abbrev pub toggle_rerouted : Circuit
+toggle_rerouted = record toggle { routing = record { links = rerouted_links; outputs = toggle_outputs } }
 
 -- a fault of copy 0: the wires that carry the register of a0, and the cell itself
 abbrev pub fault_of_a0 : Fault

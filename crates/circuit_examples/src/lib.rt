@@ -3,11 +3,12 @@
 //! empty body.
 #![tactic(auto)]
 
+ghost use Rattle.circuit.specs.Designs.{SameDesign};
 ghost use Rattle.circuit.specs.Faults.{WithinOneDomain};
 ghost use Rattle.circuit.specs.Triplicated.{ClocksAreClocks, CopiesAlike, IsTriplicated, OpenPinsIgnored, TablesMask};
 ghost use Rattle.circuit.specs.WellFormed.{IsWellFormed};
 ghost use Rattle.circuit_examples.specs.Exchange.{exchange, exchange_with};
-ghost use Rattle.circuit_examples.specs.Toggle.{fault_of_a0, fault_of_two, toggle, toggle_unclocked, toggle_with};
+ghost use Rattle.circuit_examples.specs.Toggle.{fault_of_a0, fault_of_two, toggle, toggle_rerouted, toggle_unclocked, toggle_with};
 ghost use Rattle.links.specs.Links.{IsClean};
 
 /// The toggle is clean, well formed and triplicated.
@@ -15,6 +16,14 @@ pub fn toggle_is_triplicated()
     ensures clean { IsClean toggle.routing }
     ensures formed { IsWellFormed toggle }
     ensures triplicated { IsTriplicated toggle }
+{}
+
+/// On other wires the toggle is clean, well formed and triplicated too, and of one design with it.
+pub fn rerouted_is_of_one_design()
+    ensures clean { IsClean toggle_rerouted.routing }
+    ensures formed { IsWellFormed toggle_rerouted }
+    ensures triplicated { IsTriplicated toggle_rerouted }
+    ensures same { SameDesign toggle toggle_rerouted }
 {}
 
 /// A fault of copy 0 of the toggle has one domain at most; one of two copies hasn't.

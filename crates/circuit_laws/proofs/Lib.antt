@@ -19,3 +19,4 @@ pub mod Quiet
 pub mod Shapes
 pub mod OneDesign
 pub mod Domains
+pub mod Keeps

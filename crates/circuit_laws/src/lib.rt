@@ -8,7 +8,7 @@ ghost use Rattle.circuit.specs.Designs.{SameDesign};
 ghost use Rattle.circuit.specs.Domains.{HasDomain};
 ghost use Rattle.circuit.specs.Faults.{no_fault, Fault, WithinOneDomain};
 ghost use Rattle.circuit.specs.Parts.{output_pads};
-ghost use Rattle.circuit.specs.Right.{RightOutside, TwoAreRight};
+ghost use Rattle.circuit.specs.Right.{KeepsOutside, KeepsTwo, RightOutside, TwoAreRight};
 ghost use Rattle.circuit.specs.Runs.{IsRun};
 ghost use Rattle.circuit.specs.Triples.{IsEntry, LiesIn, PartTriple};
 ghost use Rattle.circuit.specs.Triplicated.{IsTriplicated, NoTableLoop};
@@ -64,4 +64,14 @@ pub fn equal_outputs()
     ensures { (c e : Circuit) → IsClean c.routing → IsClean e.routing → IsWellFormed c → IsWellFormed e → IsTriplicated c → IsTriplicated e → SameDesign c e
         → (start : PartTriple → Bool) (input : ℕ → Triple → Bool) (n : ℕ) (v w : ℕ → World) → IsRun c no_fault start input n v → IsRun e no_fault start input n w
         → (t : ℕ) → t < n → (p : PadCell) → In (output_pads c.cells) p → (v t).shown p.name ≡ (w t).shown p.name }
+{}
+
+/// A circuit under a fault whose domains are at most one keeps the outputs of each circuit of its design: outside
+/// one domain each output pad shows in every cycle what the other circuit shows undisturbed, and so do at least
+/// two of the three pads of each output triple.
+pub fn hardened()
+    ensures outside { (c e : Circuit) → IsClean c.routing → IsClean e.routing → IsWellFormed c → IsWellFormed e → IsTriplicated c → IsTriplicated e → SameDesign c e
+        → (f : Fault) → WithinOneDomain e f → (d : Domain) × KeepsOutside c e f d }
+    ensures two { (c e : Circuit) → IsClean c.routing → IsClean e.routing → IsWellFormed c → IsWellFormed e → IsTriplicated c → IsTriplicated e → SameDesign c e
+        → (f : Fault) → WithinOneDomain e f → KeepsTwo c e f }
 {}
