@@ -14,3 +14,8 @@ ghost use Rattle.upset_laws.specs.PlainUpset.{is_bad, is_safe, hit_wires};
 pub fn crossed_is_bad()
     ensures { let g = graph_of mini_a in is_bad (record { graph = g; image = image_of g crossed; cells = toggle_cells g; side = toggle_side }) (only (record { frame = 52; bit = 11 })) ≡ true }
 {}
+
+/// Probe.
+pub fn toggle_is_safe()
+    ensures { let g = graph_of mini_a in is_safe (record { graph = g; image = image_of g toggle; cells = toggle_cells g; side = toggle_side }) ≡ true }
+{}

@@ -2,18 +2,23 @@
 -- shorted, and the domains of all these and of the touched cells. It is a yardstick and serves examples.
 use Rattle.std.specs.Prelude.{ℕ, Bool, true, false, List, ◌++◌, map, filter, flat_map, not, ◌==◌, ◌&&◌, ◌||◌, bytes_eq}
 use Rattle.std.specs.List.{list_any, list_all}
+use Rattle.words.specs.Members.{In}
 use Rattle.patterns.specs.Bits.{Bits}
 use Rattle.records.specs.Side.{Domain, D0, D1, D2}
 use Rattle.links.proofs.Below.{below, has}
 use Rattle.fabric.specs.Graph.{GraphArc, Graph}
 use Rattle.fabric.specs.Links.{links_of, is_chosen}
 use Rattle.fabric.specs.MuxBits.{bits_named, mux_bits}
-use Rattle.circuit.specs.Parts.{sources}
+use Rattle.circuit.specs.Parts.{Source, sources}
 use Rattle.circuit.specs.Triples.{members}
 use Rattle.upset.specs.Configured.{Configured}
 use Rattle.upset.specs.After.{conducts}
 use Rattle.upset.specs.Effect.{touched_names}
 use Rattle.upset.specs.Safe.{only}
+
+-- the outputs of the named parts are cell outputs of the device
+abbrev pub OutputsListed : Configured → Type 0
+OutputsListed k = (s : Source) → In (sources k.cells) s → In k.graph.outputs s.out
 
 -- the sources of a wire over the arcs that pass a test, and over fixed connections
 abbrev pub sources_by : Graph → (GraphArc → Bool) → ℕ → List ℕ
