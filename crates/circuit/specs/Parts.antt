@@ -30,20 +30,19 @@ pub record Source : Type 0 where
   pub kind : Kind
   pub out : ℕ
 
--- the tables of a slice, from a number on
-abbrev pub table_sources : SliceCell → ℕ → List TableCell → List Source
-table_sources s n [] = []
-table_sources s n (t ∷ ts) =
-    record { part = record { cell = s.name; part = Table n }; domain = s.domain; kind = OfTable t; out = t.out } ∷ table_sources s (suc n) ts
+-- what is made of each element of a list and its number, from a number on
+abbrev pub numbered : {X Y : Type 0} → (ℕ → X → Y) → ℕ → List X → List Y
+numbered make n [] = []
+numbered make n (x ∷ xs) = make n x ∷ numbered make (suc n) xs
 
--- the registers of a slice, from a number on
-abbrev pub register_sources : SliceCell → ℕ → List RegisterCell → List Source
-register_sources s n [] = []
-register_sources s n (r ∷ rs) =
-    record { part = record { cell = s.name; part = Register n }; domain = s.domain; kind = OfRegister r; out = r.out } ∷ register_sources s (suc n) rs
+abbrev pub table_source : SliceCell → ℕ → TableCell → Source
+table_source s n t = record { part = record { cell = s.name; part = Table n }; domain = s.domain; kind = OfTable t; out = t.out }
+
+abbrev pub register_source : SliceCell → ℕ → RegisterCell → Source
+register_source s n r = record { part = record { cell = s.name; part = Register n }; domain = s.domain; kind = OfRegister r; out = r.out }
 
 abbrev pub slice_sources : SliceCell → List Source
-slice_sources s = table_sources s 0 s.tables ++ register_sources s 0 s.registers
+slice_sources s = numbered (table_source s) 0 s.tables ++ numbered (register_source s) 0 s.registers
 
 abbrev pub pad_part : PadCell → PartRef
 pad_part p = record { cell = p.name; part = Pad }

@@ -1,9 +1,9 @@
 -- The pins of parts. The pins of a table are numbered from 0. A register has the pins data, enable, reset and
 -- clock, 0 to 3 in this order, each where it takes a wire. An output pad has the pin 0. (Our own.)
-use Rattle.std.specs.Prelude.{ℕ, suc, List, [], ◌∷◌, ◌++◌, map}
+use Rattle.std.specs.Prelude.{ℕ, List, [], ◌∷◌, ◌++◌, map}
 use Rattle.std.specs.List.{flat_map}
 use Rattle.circuit.specs.Cells.{TableCell, Input, InputWire, InputNotWire, InputZero, InputOne, RegisterCell, PadCell, Cells}
-use Rattle.circuit.specs.Parts.{PartRef, Kind, OfTable, OfRegister, OfInput, OfClock, Source, pad_part, sources, output_pads}
+use Rattle.circuit.specs.Parts.{PartRef, Kind, OfTable, OfRegister, OfInput, OfClock, Source, numbered, pad_part, sources, output_pads}
 
 -- a pin, by its part and its number there
 pub record PinRef : Type 0 where
@@ -19,11 +19,6 @@ pub record Pin : Type 0 where
 abbrev pub pin_at : PartRef → ℕ → ℕ → Pin
 pin_at part n w = record { ref = record { part = part; pin = n }; wire = w }
 
--- the pins of a part at these wires, numbered from a number on
-abbrev pub pins_from : PartRef → ℕ → List ℕ → List Pin
-pins_from part n [] = []
-pins_from part n (w ∷ ws) = pin_at part n w ∷ pins_from part (suc n) ws
-
 -- the pin of a register with this number, where it takes a wire
 abbrev pub input_pin : PartRef → ℕ → Input → List Pin
 input_pin part n (InputWire w) = pin_at part n w ∷ []
@@ -33,7 +28,7 @@ input_pin part n InputOne = []
 
 -- the pins of a table
 abbrev pub table_pins : PartRef → TableCell → List Pin
-table_pins part t = pins_from part 0 t.pins
+table_pins part t = numbered (pin_at part) 0 t.pins
 
 -- the pins data, enable and reset of a register
 abbrev pub data_pins : PartRef → RegisterCell → List Pin

@@ -49,7 +49,7 @@ without (z ∷ xs) x h = elim h [
 pred_same : (m n : ℕ) → suc m ≡ suc n → m ≡ n
 pred_same m n e = omega arith
 
-table_of : (k : Kind) → ((t : TableCell) × (k ≡ OfTable t)) ⊎ ((t : TableCell) → k ≡ OfTable t → ⊥)
+pub table_of : (k : Kind) → ((t : TableCell) × (k ≡ OfTable t)) ⊎ ((t : TableCell) → k ≡ OfTable t → ⊥)
 table_of (OfTable t) = inl (t, refl)
 table_of (OfRegister r) = inr (λ t e. (let no : ⊥ = cc in no))
 table_of OfInput = inr (λ t e. (let no : ⊥ = cc in no))

@@ -10,3 +10,9 @@ pub mod Outside
 pub mod Registers
 pub mod Steps
 pub mod OutputsRight
+pub mod Refs
+pub mod Settle
+pub mod Solve
+pub mod Made
+pub mod ChosenRun
+pub mod Quiet

@@ -1,9 +1,9 @@
 -- The parts and pins of cells.
-use Rattle.std.proofs.Common.{◌≡◌, ℕ, suc, Bool, true, false, List, [], ◌∷◌, map, ◌⊎◌, inl, inr, refl, sym, ap, subst, ◌∙◌, filter, cond}
+use Rattle.std.proofs.Common.{◌≡◌, ℕ, suc, ◌≤◌, Bool, true, false, List, [], ◌∷◌, map, ◌⊎◌, inl, inr, refl, sym, ap, subst, ◌∙◌, filter, cond, arith}
 use Rattle.std.specs.List.{flat_map}
 use Rattle.words.specs.Members.{In}
 use Rattle.circuit.specs.Cells.{TableCell, RegisterCell, SliceCell, Role, InputPad, OutputPad, ClockPad, PadCell, Cells}
-use Rattle.circuit.specs.Parts.{PartKind, Table, Register, Pad, Kind, OfTable, OfRegister, OfInput, OfClock, Source, table_sources, register_sources, slice_sources, pad_part, pad_source_by, pad_sources, sources, is_output, output_pads}
+use Rattle.circuit.specs.Parts.{PartKind, Table, Register, Pad, Kind, OfTable, OfRegister, OfInput, OfClock, Source, numbered, table_source, register_source, slice_sources, pad_part, pad_source_by, pad_sources, sources, is_output, output_pads}
 use Rattle.circuit.specs.Pins.{Pin, table_pins, data_pins, bit_pins_of, bit_pins, clock_pins, source_pins, pad_pin, pins}
 use Rattle.circuit.specs.Triples.{Member, LiesIn}
 use Rattle.links.proofs.Members.{in_left, in_right, in_either, in_map, in_flat_map, of_flat_map}
@@ -17,44 +17,38 @@ Fits Pad OfClock = Unit {0}
 Fits _ _ = ⊥
 
 -- what is known of the parts of a slice
-record OfSlice (s : SliceCell) (x : Source) : Type 0 where
-  cell : x.part.cell ≡ s.name
-  domain : x.domain ≡ s.domain
-  fits : Fits x.part.part x.kind
+pub record OfSlice (s : SliceCell) (x : Source) : Type 0 where
+  pub cell : x.part.cell ≡ s.name
+  pub domain : x.domain ≡ s.domain
+  pub fits : Fits x.part.part x.kind
 
-of_tables : (s : SliceCell) (n : ℕ) (ts : List TableCell) (x : Source) → In (table_sources s n ts) x → OfSlice s x
-of_tables s n [] x i = absurd i
-of_tables s n (t ∷ ts) x i = elim i [
-  | inl e ↦ subst (OfSlice s) e (record { cell = refl; domain = refl; fits = tt })
-  | inr j ↦ of_tables s (suc n) ts x j
+-- an element of a numbered list is made of an element and its number
+pub of_numbered : {X Y : Type 0} (make : ℕ → X → Y) (n : ℕ) (xs : List X) (y : Y) → In (numbered make n xs) y → (m : ℕ) × ((x : X) × (In xs x × ((make m x ≡ y) × (n ≤ m))))
+of_numbered make n [] y i = absurd i
+of_numbered make n (x ∷ xs) y i = elim i [
+  | inl e ↦ (n, (x, (inl refl, (e, (let h : n ≤ n = omega arith in h)))))
+  | inr j ↦ (let g = of_numbered make (suc n) xs y j in (g.0, (g.1.0, (inr g.1.1.0, (g.1.1.1.0, (let h : suc n ≤ g.0 = g.1.1.1.1 in let k : n ≤ g.0 = omega arith in k))))))
 ]
 
-of_registers : (s : SliceCell) (n : ℕ) (rs : List RegisterCell) (x : Source) → In (register_sources s n rs) x → OfSlice s x
-of_registers s n [] x i = absurd i
-of_registers s n (r ∷ rs) x i = elim i [
-  | inl e ↦ subst (OfSlice s) e (record { cell = refl; domain = refl; fits = tt })
-  | inr j ↦ of_registers s (suc n) rs x j
-]
-
-of_slice : (s : SliceCell) (x : Source) → In (slice_sources s) x → OfSlice s x
-of_slice s x i = elim (in_either (table_sources s 0 s.tables) (register_sources s 0 s.registers) x i) [
-  | inl j ↦ of_tables s 0 s.tables x j
-  | inr j ↦ of_registers s 0 s.registers x j
+pub of_slice : (s : SliceCell) (x : Source) → In (slice_sources s) x → OfSlice s x
+of_slice s x i = elim (in_either (numbered (table_source s) 0 s.tables) (numbered (register_source s) 0 s.registers) x i) [
+  | inl j ↦ (let g = of_numbered (table_source s) 0 s.tables x j in subst (OfSlice s) g.1.1.1.0 (record { cell = refl; domain = refl; fits = tt }))
+  | inr j ↦ (let g = of_numbered (register_source s) 0 s.registers x j in subst (OfSlice s) g.1.1.1.0 (record { cell = refl; domain = refl; fits = tt }))
 ]
 
 -- what is known of a pad as a part
-record OfPad (p : PadCell) (x : Source) : Type 0 where
-  part : x.part ≡ pad_part p
-  domain : x.domain ≡ p.domain
-  fits : Fits x.part.part x.kind
+pub record OfPad (p : PadCell) (x : Source) : Type 0 where
+  pub part : x.part ≡ pad_part p
+  pub domain : x.domain ≡ p.domain
+  pub fits : Fits x.part.part x.kind
 
-of_pad_by : (p : PadCell) (r : Role) (x : Source) → In (pad_source_by p r) x → OfPad p x
+pub of_pad_by : (p : PadCell) (r : Role) (x : Source) → In (pad_source_by p r) x → OfPad p x
 of_pad_by p InputPad x i = elim i [ inl e ↦ subst (OfPad p) e (record { part = refl; domain = refl; fits = tt }) | inr j ↦ absurd j ]
 of_pad_by p ClockPad x i = elim i [ inl e ↦ subst (OfPad p) e (record { part = refl; domain = refl; fits = tt }) | inr j ↦ absurd j ]
 of_pad_by p OutputPad x i = absurd i
 
 -- a part is of a slice or of a pad
-of_sources : (cells : Cells) (x : Source) → In (sources cells) x
+pub of_sources : (cells : Cells) (x : Source) → In (sources cells) x
     → ((s : SliceCell) × (In cells.slices s × In (slice_sources s) x)) ⊎ ((p : PadCell) × (In cells.pads p × In (pad_sources p) x))
 of_sources cells x i = elim (in_either (flat_map slice_sources cells.slices) (flat_map pad_sources cells.pads) x i) [
   | inl j ↦ inl (of_flat_map slice_sources cells.slices x j)

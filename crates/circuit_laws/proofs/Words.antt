@@ -3,8 +3,8 @@ use Rattle.std.proofs.Common.{◌≡◌, ℕ, suc, ◌+◌, Bool, true, false, L
 use Rattle.std.proofs.Math.Seq.{set_at}
 use Rattle.words.specs.Members.{In}
 use Rattle.circuit.specs.Cells.{TableCell}
-use Rattle.circuit.specs.Parts.{PartRef}
-use Rattle.circuit.specs.Pins.{PinRef, Pin, pin_at, pins_from, table_pins}
+use Rattle.circuit.specs.Parts.{PartRef, numbered}
+use Rattle.circuit.specs.Pins.{PinRef, Pin, pin_at, table_pins}
 use Rattle.circuit.specs.Worlds.{word_bit, table_output}
 
 -- the word has one bit for both values at place n of `count` bits
@@ -25,7 +25,7 @@ module _ (count word : ℕ) where
   turned n same false false xs ys e len = refl
 
   abbrev bits_at : (Pin → Bool) → PartRef → ℕ → List ℕ → List Bool
-  bits_at x part n ws = map x (pins_from part n ws)
+  bits_at x part n ws = map x (numbered (pin_at part) n ws)
 
   length_bits : (x : Pin → Bool) (part : PartRef) (n : ℕ) (ws : List ℕ) → length (bits_at x part n ws) ≡ length ws
   length_bits x part n [] = refl
@@ -36,7 +36,7 @@ module _ (count word : ℕ) where
 
   -- from pin n on, behind the bits of the pins before it
   same_from : (part : PartRef) (xs : List Bool) (n : ℕ) (ws : List ℕ) (x y : Pin → Bool) → length xs ≡ n → n + length ws ≡ count
-      → ((p : Pin) → In (pins_from part n ws) p → (x p ≡ y p) ⊎ Indifferent count word p.ref.pin) → word_bit word (xs ++ bits_at x part n ws) ≡ word_bit word (xs ++ bits_at y part n ws)
+      → ((p : Pin) → In (numbered (pin_at part) n ws) p → (x p ≡ y p) ⊎ Indifferent count word p.ref.pin) → word_bit word (xs ++ bits_at x part n ws) ≡ word_bit word (xs ++ bits_at y part n ws)
   same_from part xs n [] x y len all h = refl
   same_from part xs n (w ∷ ws) x y len all h =
       let p = pin_at part n w in
@@ -62,7 +62,7 @@ pub same_output : (part : PartRef) (t : TableCell) (x y : Pin → Bool) → ((p 
 same_output part t x y h = same_from (length t.pins) t.word part [] 0 t.pins x y refl (zero_add (length t.pins)) h
 
 -- the output goes by the bits of as many pins as there are, on whatever wires
-pub same_refs : (x : PinRef → Bool) (part : PartRef) (n : ℕ) (ws vs : List ℕ) → length ws ≡ length vs → map (λ p. x p.ref) (pins_from part n ws) ≡ map (λ p. x p.ref) (pins_from part n vs)
+pub same_refs : (x : PinRef → Bool) (part : PartRef) (n : ℕ) (ws vs : List ℕ) → length ws ≡ length vs → map (λ p. x p.ref) (numbered (pin_at part) n ws) ≡ map (λ p. x p.ref) (numbered (pin_at part) n vs)
 same_refs x part n [] [] e = refl
 same_refs x part n [] (v ∷ vs) e = absurd (let no : ⊥ = omega arith in no)
 same_refs x part n (w ∷ ws) [] e = absurd (let no : ⊥ = omega arith in no)

@@ -1,17 +1,18 @@
 //! Laws of triplicated circuits. There is no code but laws, each the contract of a function with an empty body.
 #![tactic(auto)]
 
+ghost use Rattle.circuit.specs.Choices.{Agree, Follows};
 ghost use Rattle.circuit.specs.Circuits.{Circuit};
 ghost use Rattle.circuit.specs.Faults.{no_fault, Fault, WithinOneDomain};
 ghost use Rattle.circuit.specs.Right.{RightOutside, TwoAreRight};
 ghost use Rattle.circuit.specs.Runs.{IsRun};
 ghost use Rattle.circuit.specs.Triples.{IsEntry, PartTriple};
-ghost use Rattle.circuit.specs.Triplicated.{IsTriplicated};
+ghost use Rattle.circuit.specs.Triplicated.{IsTriplicated, NoTableLoop};
 ghost use Rattle.circuit.specs.WellFormed.{IsWellFormed};
 ghost use Rattle.circuit.specs.Worlds.{World};
 ghost use Rattle.links.specs.Links.{IsClean};
 ghost use Rattle.records.specs.Side.{Domain, Triple};
-ghost use Rattle.std.specs.Prelude.{Bool, List, ℕ, ◌<◌, ◌≡◌};
+ghost use Rattle.std.specs.Prelude.{Bool, List, ℕ, ◌<◌, ◌↔◌, ◌≡◌};
 ghost use Rattle.words.specs.Members.{In};
 
 /// Masking: where the domains of a fault are at most one, there is one domain such that in every faulty run
@@ -30,4 +31,19 @@ pub fn outputs_agree()
     ensures { (c : Circuit) → IsClean c.routing → IsWellFormed c → IsTriplicated c
         → (start : PartTriple → Bool) (input : ℕ → Triple → Bool) (n : ℕ) (run : ℕ → World) → IsRun c no_fault start input n run → (t : ℕ) → t < n
         → (o : Triple) (x y : List ℕ) → In c.side.outputs o → IsEntry o x → IsEntry o y → (run t).shown x ≡ (run t).shown y }
+{}
+
+/// Where no table reaches itself, each choice has just one faulty run: there is one that follows it, and any
+/// two that do agree on all that the circuit has.
+pub fn one_run()
+    ensures { (c : Circuit) → IsClean c.routing → IsWellFormed c → NoTableLoop c
+        → (f : Fault) (start : PartTriple → Bool) (input : ℕ → Triple → Bool) (choice : ℕ → World) (n : ℕ)
+        → (run : ℕ → World) × (IsRun c f start input n run × (Follows c f choice n run
+        × ((other : ℕ → World) → IsRun c f start input n other → Follows c f choice n other → (t : ℕ) → t < n → Agree c (run t) (other t)))) }
+{}
+
+/// With no disturbed wire and no touched cell the faulty runs are the undisturbed ones.
+pub fn no_flips()
+    ensures { (c : Circuit) (f : Fault) → ((a : ℕ) → In f.disturbed a → ⊥) → ((name : List ℕ) → In f.touched name → ⊥)
+        → (start : PartTriple → Bool) (input : ℕ → Triple → Bool) (n : ℕ) (run : ℕ → World) → IsRun c f start input n run ↔ IsRun c no_fault start input n run }
 {}
