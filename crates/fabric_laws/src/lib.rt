@@ -84,8 +84,6 @@ pub fn named_arcs_are_there()
 
 /// Whether the arcs agree can be tested.
 pub fn agreement_is_tested()
-    ensures {
-        (device : Device) (g : Graph) → IsGraph device g
-        → (image : Bits) (config : Config) → (arcs_agree g image config ≡ true) ↔ ArcsAgree g image config
-    }
+    ensures { (device : Device) (g : Graph) → IsGraph device g
+        → (image : Bits) (config : Config) → (arcs_agree g image config ≡ true) ↔ ArcsAgree g image config }
 {}
