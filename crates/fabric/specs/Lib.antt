@@ -1,1 +1,14 @@
+pub mod InOrder
+pub mod Wires
+pub mod WireNames
+pub mod WireOfName
 pub mod Chosen
+pub mod Settings
+pub mod Device
+pub mod TileWires
+pub mod Graph
+pub mod GraphOf
+pub mod Links
+pub mod MuxBits
+pub mod Image
+pub mod Agree

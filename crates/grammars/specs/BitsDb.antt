@@ -1,9 +1,8 @@
 -- The grammar of `bits.db`, as far as muxes go: each row is the head of a record, `.mux SINK`, or one of the
 -- arcs `SOURCE BITS` that follow it. (After Project Trellis; limits, comments, and that nothing stands twice
 -- are our own.)
-use Rattle.std.specs.Prelude.{ℕ, Bool, false, not, List, [], ◌∷◌, ◌++◌, length, Option, Some, None, option_map, Result, Ok, Err, codes, nat_lt, if◌then◌else◌, ◌==◌, ◌&&◌}
+use Rattle.std.specs.Prelude.{ℕ, Bool, false, not, List, [], ◌∷◌, length, Option, Some, None, option_map, Result, Ok, Err, codes, nat_lt, if◌then◌else◌, ◌==◌, ◌&&◌}
 use Rattle.std.specs.List.{list_any}
-use Rattle.std.specs.Option.{option_to_list}
 use Rattle.std.specs.Str.{bytes_eq}
 use Rattle.words.specs.Firsts.{first_fault}
 use Rattle.patterns.specs.Bits.{PatternBit}
@@ -51,15 +50,26 @@ arc_of (source ∷ bits) =
     if is_name source && not (begins_with_dot source) then option_map (λ pattern. record { source = source; bits = pattern }) (bits_of bits)
     else None
 
+-- a head ends the arcs before it, and an arc stands in front of those behind it
+abbrev pub arc_before : Option (List ℕ) → Option Arc → List Arc → List Arc
+arc_before (Some sink) arc arcs = []
+arc_before None (Some arc) arcs = arc ∷ arcs
+arc_before None None arcs = arcs
+
 -- the arcs of the rows up to the next head
 abbrev pub arcs_up_to_head : List Row → List Arc
 arcs_up_to_head [] = []
-arcs_up_to_head (row ∷ rows) = elim (sink_of row.words) [ Some _ ↦ [] | None ↦ option_to_list (arc_of row.words) ++ arcs_up_to_head rows ]
+arcs_up_to_head (row ∷ rows) = arc_before (sink_of row.words) (arc_of row.words) (arcs_up_to_head rows)
 
--- the muxes of rows: each head has the arcs up to the next one
+-- a head begins a mux
+abbrev pub mux_before : Option (List ℕ) → List Arc → List Mux → List Mux
+mux_before (Some sink) arcs muxes = record { sink = sink; arcs = arcs } ∷ muxes
+mux_before None arcs muxes = muxes
+
+-- the muxes of rows: each head has the arcs of the rows up to the next one
 abbrev pub muxes_of : List Row → List Mux
 muxes_of [] = []
-muxes_of (row ∷ rows) = elim (sink_of row.words) [ Some sink ↦ record { sink = sink; arcs = arcs_up_to_head rows } ∷ muxes_of rows | None ↦ muxes_of rows ]
+muxes_of (row ∷ rows) = mux_before (sink_of row.words) (arcs_up_to_head rows) (muxes_of rows)
 
 abbrev pub has_sink : List Mux → List ℕ → Bool
 has_sink muxes sink = list_any (λ m. bytes_eq m.sink sink) muxes

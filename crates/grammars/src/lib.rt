@@ -1,2 +1,13 @@
 //! The grammars of the files that the program reads: what their bytes stand for, or their first fault.
 #![tactic(auto)]
+
+ghost use Rattle.std.specs.Prelude.{◌≡◌, [], ℕ, List};
+ghost use Rattle.texts.specs.Lines.{lines_of};
+ghost use Rattle.grammars.specs.BitsDb.{database_of};
+ghost use Rattle.grammars.specs.RowByRow.{read_lines, database_with};
+
+/// A database is read line by line: each line makes of the muxes before it the muxes behind it, or is the
+/// first faulty one.
+pub fn database_is_read_by_lines()
+    ensures { (text : List ℕ) → database_of text ≡ database_with (read_lines [] (lines_of text)) }
+{}

@@ -1,6 +1,7 @@
 pub mod Pieces
 pub mod Lines
 pub mod Words
+pub mod Parts
 pub mod Numbers
 pub mod Names
 pub mod PatternBits

@@ -2,3 +2,4 @@ pub mod Members
 pub mod Firsts
 pub mod OrMemory
 pub mod Rose
+pub mod Appended

@@ -1,0 +1,13 @@
+pub mod Members
+pub mod Prefixes
+pub mod Digits
+pub mod Relative
+pub mod WireNames
+pub mod SameBits
+pub mod Chosen
+pub mod Orders
+pub mod Sorted
+pub mod Numbered
+pub mod Graphs
+pub mod Standing
+pub mod Agreeing

@@ -1,0 +1,4 @@
+pub mod Insertion
+pub mod PlainGraph
+pub mod PlainAgree
+pub mod Stands

@@ -1,0 +1,2 @@
+pub mod MiniA
+pub mod Toggle

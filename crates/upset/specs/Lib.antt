@@ -1,0 +1,5 @@
+pub mod Configured
+pub mod After
+pub mod Effect
+pub mod Safe
+pub mod Roots

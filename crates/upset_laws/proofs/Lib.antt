@@ -1,0 +1,5 @@
+pub mod Roots
+pub mod Decided
+pub mod Upstream
+pub mod Decide
+pub mod Masked
