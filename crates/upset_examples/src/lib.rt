@@ -1,6 +1,10 @@
 //! Worked examples of flips, each the contract of a function with an empty body.
 #![tactic(auto)]
 
+ghost use Rattle.circuit.specs.Faults.{Fault};
+ghost use Rattle.circuit.specs.Right.{TwoAreRight};
+ghost use Rattle.circuit.specs.Triplicated.{IsTriplicated};
+ghost use Rattle.circuit.specs.WellFormed.{IsWellFormed};
 ghost use Rattle.fabric.specs.Links.{routing_of};
 ghost use Rattle.fabric_laws.specs.PlainGraph.{graph_of};
 ghost use Rattle.links.specs.Links.{IsClean};
@@ -10,8 +14,9 @@ ghost use Rattle.mini.specs.Toggle.{crossed, toggle};
 ghost use Rattle.mini.specs.ToggleCells.{wire_at};
 ghost use Rattle.records.specs.Side.{Domain, D0, D2};
 ghost use Rattle.std.specs.Prelude.{codes, map, ℕ, [], ◌∷◌, ◌≡◌, ◌↔◌};
+ghost use Rattle.upset.specs.Configured.{circuit_of};
 ghost use Rattle.upset.specs.Effect.{IsDisturbed};
-ghost use Rattle.upset.specs.Safe.{FlipsHave, IsBad, IsSafe};
+ghost use Rattle.upset.specs.Safe.{FlipsHave, IsBad, IsMuxFault, IsSafe};
 ghost use Rattle.upset_examples.specs.Circuits.{flip, three_arcs, with_slices, with_toggle};
 ghost use Rattle.upset_laws.specs.PlainUpset.{domains_of, fed_wires, hit_wires, short_sources};
 
@@ -19,6 +24,14 @@ ghost use Rattle.upset_laws.specs.PlainUpset.{domains_of, fed_wires, hit_wires, 
 pub fn toggle_is_safe()
     ensures clean { let k = with_toggle (graph_of mini_a) toggle in IsClean (routing_of k.graph k.image) }
     ensures safe { IsSafe (with_toggle (graph_of mini_a) toggle) }
+{}
+
+/// It meets all that masking asks for, so that after the flip of any routing-mux bit of its image at least two of
+/// the three pads stay right.
+pub fn toggle_is_masked()
+    ensures formed { IsWellFormed (circuit_of (with_toggle (graph_of mini_a) toggle)) }
+    ensures triplicated { IsTriplicated (circuit_of (with_toggle (graph_of mini_a) toggle)) }
+    ensures masked { let k = with_toggle (graph_of mini_a) toggle in (f : Fault) → IsMuxFault k f → TwoAreRight (circuit_of k) f }
 {}
 
 /// Where copies 0 and 2 run side by side, one flip joins them: mux T of the third slice gets both as sources.
