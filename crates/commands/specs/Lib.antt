@@ -1,0 +1,4 @@
+pub mod Commands
+pub mod Options
+pub mod Readings
+pub mod Examples
