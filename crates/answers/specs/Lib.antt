@@ -1,4 +1,5 @@
 pub mod Words
+pub mod Parts
 pub mod Refusals
 pub mod Texts
 pub mod Drivers
