@@ -200,7 +200,8 @@ pub clash : (b : Bool) → b ≡ true → not b ≡ true → ⊥
 clash true e g = no_false g
 clash false e g = no_false e
 
-pub distinct_in : {X : Type 0} (same : X → X → Bool) → ((x y : X) → same x y ≡ true → same y x ≡ true) → (xs : List X) (x y : X) → distinct same xs ≡ true → In xs x → In xs y → same x y ≡ true → x ≡ y
+pub distinct_in : {X : Type 0} (same : X → X → Bool) → ((x y : X) → same x y ≡ true → same y x ≡ true) → (xs : List X) (x y : X)
+    → distinct same xs ≡ true → In xs x → In xs y → same x y ≡ true → x ≡ y
 distinct_in same swap [] x y d i j e = absurd i
 distinct_in same swap (z ∷ zs) x y d i j e =
     let first = and_left (list_all (λ v. not (same z v)) zs) (distinct same zs) d in

@@ -105,7 +105,8 @@ copy_2 = record {
 }
 
 -- the table of a0 reads all three registers
-read_at_a0 : (s : Source) (j k w : ℕ) → slice_get (pins toggle.cells) k ≡ Some (pin_at (table_in (codes "a0") D0 1).part j w) → FeedsFrom toggle s w → IsRead toggle s
+read_at_a0 : (s : Source) (j k w : ℕ) → slice_get (pins toggle.cells) k ≡ Some (pin_at (table_in (codes "a0") D0 1).part j w)
+    → FeedsFrom toggle s w → IsRead toggle s
 read_at_a0 s j k w e g = (pin_at (table_in (codes "a0") D0 1).part j w, to_pin toggle s (pin_at (table_in (codes "a0") D0 1).part j w) (in_at (pins toggle.cells) k (pin_at (table_in (codes "a0") D0 1).part j w) e) g)
 
 -- the three registers hold a bit
@@ -122,7 +123,8 @@ inverted false false = refl
 
 module _ (input : Triple → Bool) (v : World) (iv : IsCycle toggle no_fault input v) (x : Bool) (hold : AllHold v x) where
   -- a wire that a register feeds carries the register's bit
-  register_wire : (name : List ℕ) (d : Domain) (m w : ℕ) → FeedsFrom toggle (register_in name d m) w → v.wire w ≡ Bit (v.part (register_in name d m).part)
+  register_wire : (name : List ℕ) (d : Domain) (m w : ℕ) → FeedsFrom toggle (register_in name d m) w
+      → v.wire w ≡ Bit (v.part (register_in name d m).part)
   register_wire name d m w g = steady toggle ok input v iv (register_in name d m) w g ∙ out_is toggle ok input v iv (register_in name d m) g.source
 
   pin_is : (s : Source) (p : Pin) (y : Bool) → In (sources toggle.cells) s → In (bit_pins s) p → v.wire p.wire ≡ Bit y → bit_of v p ≡ y

@@ -29,14 +29,17 @@ pub fn toggle_is_triplicated()
 /// The toggle toggles: in every undisturbed run each output pad shows the bit with which the registers start,
 /// turned in each cycle.
 pub fn toggle_toggles()
-    ensures { (start : PartTriple → Bool) (input : ℕ → Triple → Bool) (n : ℕ) (run : ℕ → World) → IsRun toggle no_fault start input n run
-        → (t : ℕ) → t < n → (name : List ℕ) → IsEntry toggle_pads name → (run t).shown name ≡ Bit (turned t (start toggle_registers)) }
+    ensures { (start : PartTriple → Bool) (input : ℕ → Triple → Bool) (n : ℕ) (run : ℕ → World)
+        → IsRun toggle no_fault start input n run → (t : ℕ) → t < n
+        → (name : List ℕ) → IsEntry toggle_pads name → (run t).shown name ≡ Bit (turned t (start toggle_registers)) }
 {}
 
 /// Under a fault of copy 0 the pads of copies 1 and 2 still do.
 pub fn toggle_masks()
-    ensures { (start : PartTriple → Bool) (input : ℕ → Triple → Bool) (n : ℕ) (run : ℕ → World) → IsRun toggle fault_of_a0 start input n run
-        → (t : ℕ) → t < n → (p : PadCell) → In (output_pads toggle.cells) p → p.domain ≢ D0 → (run t).shown p.name ≡ Bit (turned t (start toggle_registers)) }
+    ensures { (start : PartTriple → Bool) (input : ℕ → Triple → Bool) (n : ℕ) (run : ℕ → World)
+        → IsRun toggle fault_of_a0 start input n run → (t : ℕ) → t < n
+        → (p : PadCell) → In (output_pads toggle.cells) p → p.domain ≢ D0
+        → (run t).shown p.name ≡ Bit (turned t (start toggle_registers)) }
 {}
 
 /// On other wires the toggle is clean, well formed and triplicated too, and of one design with it.
