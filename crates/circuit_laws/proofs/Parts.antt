@@ -128,6 +128,3 @@ register_bit s r ks p i = subst (λ k. In (bit_pins_of s.part k) p) (sym ks) i
 
 pub table_path : (k : Kind) (t v : TableCell) → k ≡ OfTable t → k ≡ OfTable v → t ≡ v
 table_path k t v e g = (let h : OfTable t ≡ OfTable v = sym e ∙ g in cc)
-
-pub register_path : (k : Kind) (q r : RegisterCell) → k ≡ OfRegister q → k ≡ OfRegister r → q ≡ r
-register_path k q r e g = (let h : OfRegister q ≡ OfRegister r = sym e ∙ g in cc)
