@@ -15,17 +15,23 @@ use Rattle.circuit.specs.Runs.{IsClocked}
 pub record TakesFree (c : Circuit) (f : Fault) (choice w : World) : Type 0 where
   pub disturbed : (a : ℕ) → In f.disturbed a → w.wire a ≡ choice.wire a
   pub touched : (s : Source) → In (sources c.cells) s → In f.touched s.part.cell → w.wire s.out ≡ choice.wire s.out
+  -- a wire with no counting driver that is no output of a named cell
   pub loose : (a : ℕ) → ((b : ℕ) → Counting c.routing b a → ⊥) → ((s : Source) → In (sources c.cells) s → s.out ≢ a) → w.wire a ≡ choice.wire a
+  -- a pin that carries `clock`
   pub pins : (s : Source) (p : Pin) → In (sources c.cells) s → In (bit_pins s) p → w.wire p.wire ≡ Clock → w.pin p.ref ≡ choice.pin p.ref
   pub shows : (p : PadCell) → In (output_pads c.cells) p → In f.touched p.name → w.shown p.name ≡ choice.shown p.name
 
 -- a run follows a choice: each value that is left free is the choice's
 pub record Follows (c : Circuit) (f : Fault) (choice : ℕ → World) (n : ℕ) (run : ℕ → World) : Type 0 where
   pub cycles : (t : ℕ) → t < n → TakesFree c f (choice t) (run t)
-  pub unread : 0 < n → (s : Source) (r : RegisterCell) → In (sources c.cells) s → s.kind ≡ OfRegister r → (IsRead c s → ⊥) → (run 0).part s.part ≡ (choice 0).part s.part
+  -- the bits of unread registers at the start
+  pub unread : 0 < n → (s : Source) (r : RegisterCell) → In (sources c.cells) s → s.kind ≡ OfRegister r → (IsRead c s → ⊥)
+      → (run 0).part s.part ≡ (choice 0).part s.part
+  -- the next bits of registers that are touched or not clocked
   pub touched : (t : ℕ) → suc t < n → (s : Source) (r : RegisterCell) → In (sources c.cells) s → s.kind ≡ OfRegister r → In f.touched s.part.cell
       → (run (suc t)).part s.part ≡ (choice (suc t)).part s.part
-  pub unclocked : (t : ℕ) → suc t < n → (s : Source) (r : RegisterCell) → In (sources c.cells) s → s.kind ≡ OfRegister r → (IsClocked (run t) r.clock → ⊥)
+  pub unclocked : (t : ℕ) → suc t < n → (s : Source) (r : RegisterCell) → In (sources c.cells) s → s.kind ≡ OfRegister r
+      → (IsClocked (run t) r.clock → ⊥)
       → (run (suc t)).part s.part ≡ (choice (suc t)).part s.part
 
 -- the part of a source has a bit: a table or a register

@@ -42,6 +42,7 @@ pub record SameSide (a b : Side) : Type 0 where
   pub clocks : a.clocks ≡ b.clocks
   pub voters : a.voters ≡ b.voters
 
+-- two circuits have the same side file but for sites, the same cells but for wires, and the same connections
 pub record SameDesign (c e : Circuit) : Type 0 where
   pub sides : SameSide c.side e.side
   pub parts : shape_of c.cells ≡ shape_of e.cells

@@ -18,9 +18,12 @@ use Rattle.circuit.specs.Faults.{Fault}
 pub record IsCycle (c : Circuit) (f : Fault) (input : Triple → Bool) (w : World) : Type 0 where
   -- a wire carries what its counting driver carries
   pub driven : (a b : ℕ) → (In f.disturbed a → ⊥) → Counting c.routing b a → w.wire a ≡ w.wire b
-  pub outputs : (s : Source) → In (sources c.cells) s → (In f.disturbed s.out → ⊥) → (In f.touched s.part.cell → ⊥) → w.wire s.out ≡ carried c.side input w s
+  -- the output of a part carries the part's bit, the bit of its input triple, or `clock`
+  pub outputs : (s : Source) → In (sources c.cells) s → (In f.disturbed s.out → ⊥) → (In f.touched s.part.cell → ⊥)
+      → w.wire s.out ≡ carried c.side input w s
   -- a table gives the bit of its word at the address of its pins
   pub tables : (s : Source) (t : TableCell) → In (sources c.cells) s → s.kind ≡ OfTable t → w.part s.part ≡ table_output s.part t (bit_of w)
+  -- a pin counts as what its wire carries, where that is `clock` as either bit
   pub pins : (s : Source) (p : Pin) → In (sources c.cells) s → In (bit_pins s) p → CountsAs (w.wire p.wire) (w.pin p.ref)
   -- an output pad shows what its wire carries
   pub shows : (p : PadCell) → In (output_pads c.cells) p → (In f.touched p.name → ⊥) → w.shown p.name ≡ w.wire p.wire
@@ -56,6 +59,7 @@ IsStart c start w = (s : Source) (r : RegisterCell) → In (sources c.cells) s �
 -- A run of n cycles under a fault, from a start, on an input that gives one bit to each input triple in each
 -- cycle.
 pub record IsRun (c : Circuit) (f : Fault) (start : PartTriple → Bool) (input : ℕ → Triple → Bool) (n : ℕ) (run : ℕ → World) : Type 0 where
+  -- the first cycle is a common start
   pub starts : 0 < n → IsStart c start (run 0)
   pub cycles : (t : ℕ) → t < n → IsCycle c f (input t) (run t)
   pub steps : (t : ℕ) → suc t < n → IsStep c f (run t) (run (suc t))

@@ -59,11 +59,14 @@ TablesMask c = (s : Source) (t : TableCell) → ReadPart c s → s.kind ≡ OfTa
 -- The tables of a triple give equal outputs for each assignment, its registers are alike, and the output pads of
 -- a triple are fed by the same triple. A copy that isn't read isn't compared.
 pub record CopiesAlike (c : Circuit) : Type 0 where
-  pub tables : (s u : Source) (t v : TableCell) → ReadPart c s → ReadPart c u → s.kind ≡ OfTable t → u.kind ≡ OfTable v → triple_of c.side s.part ≡ triple_of c.side u.part
+  pub tables : (s u : Source) (t v : TableCell) → ReadPart c s → ReadPart c u → s.kind ≡ OfTable t → u.kind ≡ OfTable v
+      → triple_of c.side s.part ≡ triple_of c.side u.part
       → TablesAlike c s u t v
-  pub registers : (s u : Source) (q r : RegisterCell) → ReadPart c s → ReadPart c u → s.kind ≡ OfRegister q → u.kind ≡ OfRegister r → triple_of c.side s.part ≡ triple_of c.side u.part
+  pub registers : (s u : Source) (q r : RegisterCell) → ReadPart c s → ReadPart c u → s.kind ≡ OfRegister q
+      → u.kind ≡ OfRegister r → triple_of c.side s.part ≡ triple_of c.side u.part
       → RegistersAlike c s.part u.part q r
-  pub outputs : (t : Triple) (p q : PadCell) → In c.side.outputs t → In (output_pads c.cells) p → In (output_pads c.cells) q → IsEntry t p.name → IsEntry t q.name
+  pub outputs : (t : Triple) (p q : PadCell) → In c.side.outputs t → In (output_pads c.cells) p → In (output_pads c.cells) q
+      → IsEntry t p.name → IsEntry t q.name
       → FedAlike c (pad_pin p) (pad_pin q)
 
 -- There is an output triple.

@@ -18,6 +18,7 @@ pub record OutputsApart (c : Circuit) : Type 0 where
   pub listed : (s : Source) → In (sources c.cells) s → In c.routing.outputs s.out
   pub alone : (s u : Source) → In (sources c.cells) s → In (sources c.cells) u → s.out ≡ u.out → s ≡ u
 
+-- a slice, or a pad of a role, has this name
 abbrev pub IsSlice : Cells → List ℕ → Type 0
 IsSlice cells name = (s : SliceCell) × (In cells.slices s × (s.name ≡ name))
 
@@ -35,8 +36,10 @@ pub record TriplesFit (c : Circuit) : Type 0 where
 
 -- the slices of a triple have equally many tables and equally many registers, and a table has 1 to 4 pins
 pub record SizesFit (c : Circuit) : Type 0 where
-  pub tables : (s u : SliceCell) → In c.cells.slices s → In c.cells.slices u → triple_with c.side s.name ≡ triple_with c.side u.name → length s.tables ≡ length u.tables
-  pub registers : (s u : SliceCell) → In c.cells.slices s → In c.cells.slices u → triple_with c.side s.name ≡ triple_with c.side u.name → length s.registers ≡ length u.registers
+  pub tables : (s u : SliceCell) → In c.cells.slices s → In c.cells.slices u
+      → triple_with c.side s.name ≡ triple_with c.side u.name → length s.tables ≡ length u.tables
+  pub registers : (s u : SliceCell) → In c.cells.slices s → In c.cells.slices u
+      → triple_with c.side s.name ≡ triple_with c.side u.name → length s.registers ≡ length u.registers
   pub some_pins : (s : SliceCell) (t : TableCell) → In c.cells.slices s → In s.tables t → 1 ≤ length t.pins
   pub few_pins : (s : SliceCell) (t : TableCell) → In c.cells.slices s → In s.tables t → length t.pins ≤ 4
 

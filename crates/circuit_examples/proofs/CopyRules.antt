@@ -74,7 +74,8 @@ module _ (c : Circuit) (ok : Sound c) where
     unfolding Listed
     listed_clock = λ p i. clock_pin_listed c.cells s p js (subst (λ k. In (clock_pins_of s.part k) p) (sym ks) i)
 
-  registers_are : (s u : Source) (q r : RegisterCell) → In (sources c.cells) s → In (sources c.cells) u → s.kind ≡ OfRegister q → u.kind ≡ OfRegister r → registers q r ≡ true → RegistersAlike c s.part u.part q r
+  registers_are : (s u : Source) (q r : RegisterCell) → In (sources c.cells) s → In (sources c.cells) u → s.kind ≡ OfRegister q
+      → u.kind ≡ OfRegister r → registers q r ≡ true → RegistersAlike c s.part u.part q r
   registers_are s u q r js ju ks ku e =
       let one = and_right (same_bit q.set r.set) _ e in
       let two = and_right (takes q.input r.input) _ one in
@@ -104,7 +105,8 @@ module _ (c : Circuit) (ok : Sound c) where
     pub parts : each_part c (λ s. each_part c (pair s)) ≡ true
     pub pads : list_all (λ t. list_all (λ p. list_all (shown_alike t p) (output_pads c.cells)) (output_pads c.cells)) c.side.outputs ≡ true
 
-  pair_passes : CopiesPass → (s u : Source) (x y : Kind) → In (sources c.cells) s → In (sources c.cells) u → s.kind ≡ x → u.kind ≡ y → triple_of c.side s.part ≡ triple_of c.side u.part → copies_by s u x y ≡ true
+  pair_passes : CopiesPass → (s u : Source) (x y : Kind) → In (sources c.cells) s → In (sources c.cells) u → s.kind ≡ x
+      → u.kind ≡ y → triple_of c.side s.part ≡ triple_of c.side u.part → copies_by s u x y ≡ true
   pair_passes pass s u x y js ju ks ku same =
       subst (λ k. copies_by s u k y ≡ true) ks (subst (λ k. copies_by s u s.kind k ≡ true) ku (implied (group_eq (triple_of c.side s.part) (triple_of c.side u.part)) _
       (all_in (pair s) (sources c.cells) u (all_in (λ (z : Source). each_part c (pair z)) (sources c.cells) s pass.parts js) ju) (is_group _ _ same)))

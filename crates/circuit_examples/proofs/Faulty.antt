@@ -27,7 +27,7 @@ a2_feeds : (w : ℕ) → feeds toggle of_a2 w ≡ true → FeedsFrom toggle of_a
 a2_feeds w e = feeds_is toggle (toggle_sound inverted_majority).formed.outputs.listed of_a2 w (inr (inr (inr (inr (inr (inl refl)))))) e
 
 -- each domain of the fault of copy 0 is 0
-in_copy_0 : (d : Domain) → FaultHas toggle fault_of_a0 d → D0 ≡ d
+pub in_copy_0 : (d : Domain) → FaultHas toggle fault_of_a0 d → D0 ≡ d
 in_copy_0 d has = elim has [
   | inl x ↦ domain_is toggle (toggle_sound inverted_majority) of_a0 x.0 d (a0_feeds x.0 (all_in (feeds toggle of_a0) fault_of_a0.disturbed x.0 refl x.1.0)) x.1.1
   | inr x ↦ elim x.1.0 [

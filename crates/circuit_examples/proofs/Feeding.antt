@@ -13,7 +13,8 @@ use Rattle.circuit_examples.proofs.Tests.{and_left, and_right, all_in, any_in, n
 abbrev pub feeds : Circuit → Source → ℕ → Bool
 feeds c s w = has (below c.routing.links s.out) w
 
-pub feeds_is : (c : Circuit) → ((s : Source) → In (sources c.cells) s → In c.routing.outputs s.out) → (s : Source) (w : ℕ) → In (sources c.cells) s → feeds c s w ≡ true → FeedsFrom c s w
+pub feeds_is : (c : Circuit) → ((s : Source) → In (sources c.cells) s → In c.routing.outputs s.out) → (s : Source) (w : ℕ)
+    → In (sources c.cells) s → feeds c s w ≡ true → FeedsFrom c s w
 feeds_is c listed s w i e = record { source = i; feeds = record { output = listed s i; reach = below_sound c.routing.links s.out w (in_has (below c.routing.links s.out) w e) } }
 
 pub is_feeds : (c : Circuit) (s : Source) (w : ℕ) → FeedsFrom c s w → feeds c s w ≡ true

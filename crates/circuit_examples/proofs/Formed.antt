@@ -78,7 +78,8 @@ module _ (c : Circuit) where
   abbrev entries : (List ℕ → Bool) → List Triple → Bool
   entries test ts = list_all (λ t. list_all test (names_of t)) ts
 
-  entry_is : (test : List ℕ → Bool) (ts : List Triple) (t : Triple) (name : List ℕ) → entries test ts ≡ true → In ts t → IsEntry t name → test name ≡ true
+  entry_is : (test : List ℕ → Bool) (ts : List Triple) (t : Triple) (name : List ℕ) → entries test ts ≡ true → In ts t
+      → IsEntry t name → test name ≡ true
   entry_is test ts t name e i j = all_in test (names_of t) name (all_in (λ (z : Triple). list_all test (names_of z)) ts t e i) j
 
   abbrev entry : List ℕ → Triple → Bool
@@ -118,7 +119,8 @@ module _ (c : Circuit) where
   abbrev sizes_same : (SliceCell → ℕ) → Bool
   sizes_same size = list_all (λ s. list_all (λ u. implies (triple_eq (triple_with c.side s.name) (triple_with c.side u.name)) (eqb (size s) (size u))) c.cells.slices) c.cells.slices
 
-  size_is : (size : SliceCell → ℕ) → sizes_same size ≡ true → (s u : SliceCell) → In c.cells.slices s → In c.cells.slices u → triple_with c.side s.name ≡ triple_with c.side u.name → size s ≡ size u
+  size_is : (size : SliceCell → ℕ) → sizes_same size ≡ true → (s u : SliceCell) → In c.cells.slices s → In c.cells.slices u
+      → triple_with c.side s.name ≡ triple_with c.side u.name → size s ≡ size u
   size_is size e s u i j h =
       number_is (size s) (size u) (implied (triple_eq (triple_with c.side s.name) (triple_with c.side u.name)) (eqb (size s) (size u))
       (all_in (λ (z : SliceCell). implies (triple_eq (triple_with c.side s.name) (triple_with c.side z.name)) (eqb (size s) (size z))) c.cells.slices u
@@ -129,7 +131,8 @@ module _ (c : Circuit) where
   abbrev each_table : (TableCell → Bool) → Bool
   each_table test = list_all (λ s. list_all test s.tables) c.cells.slices
 
-  table_is : (test : TableCell → Bool) → each_table test ≡ true → (s : SliceCell) (t : TableCell) → In c.cells.slices s → In s.tables t → test t ≡ true
+  table_is : (test : TableCell → Bool) → each_table test ≡ true → (s : SliceCell) (t : TableCell) → In c.cells.slices s
+      → In s.tables t → test t ≡ true
   table_is test e s t i j = all_in test s.tables t (all_in (λ (z : SliceCell). list_all test z.tables) c.cells.slices s e i) j
 
   at_most : (m n : ℕ) → leb m n ≡ true → m ≤ n

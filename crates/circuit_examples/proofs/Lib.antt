@@ -10,3 +10,4 @@ pub mod ExchangeMeets
 pub mod Broken
 pub mod Faulty
 pub mod Rerouted
+pub mod Toggling

@@ -27,7 +27,8 @@ each_part c test = list_all test (sources c.cells)
 abbrev pub each_pin : (Source → List Pin) → (Source → Pin → Bool) → Circuit → Bool
 each_pin pins_of test c = each_part c (λ s. list_all (test s) (pins_of s))
 
-pub pin_passes : (c : Circuit) (pins_of : Source → List Pin) (test : Source → Pin → Bool) → each_pin pins_of test c ≡ true → (s : Source) (p : Pin) → In (sources c.cells) s → In (pins_of s) p → test s p ≡ true
+pub pin_passes : (c : Circuit) (pins_of : Source → List Pin) (test : Source → Pin → Bool) → each_pin pins_of test c ≡ true
+    → (s : Source) (p : Pin) → In (sources c.cells) s → In (pins_of s) p → test s p ≡ true
 pin_passes c pins_of test e s p i j = all_in (test s) (pins_of s) p (all_in (λ z. list_all (test z) (pins_of z)) (sources c.cells) s e i) j
 
 abbrev each_pad : Circuit → (PadCell → Bool) → Bool
@@ -163,7 +164,8 @@ module _ (c : Circuit) (ok : Sound c) where
   pub fed_complete : (w : ℕ) → Fed c.routing w → fed c w ≡ true
   fed_complete w f = any_at (λ o. has (below c.routing.links o) w) c.routing.outputs f.0 f.1.output (has_in (below c.routing.links f.0) w (below_complete c.routing.links f.1.reach))
 
-  own_is : (d : Domain) (free : Bool) (w : ℕ) → own_feed d free w ≡ true → Fed c.routing w → (a : Source) × (FeedsFrom c a w × ((a.domain ≡ d) ⊎ (free ≡ true)))
+  own_is : (d : Domain) (free : Bool) (w : ℕ) → own_feed d free w ≡ true → Fed c.routing w
+      → (a : Source) × (FeedsFrom c a w × ((a.domain ≡ d) ⊎ (free ≡ true)))
   own_is d free w e f =
       let g = any_in (λ (a : Source). feeds c a w && (domain_eq a.domain d || free)) (sources c.cells) (implied (fed c w) _ e (fed_complete w f)) in (
         g.0,
@@ -196,7 +198,8 @@ module _ (c : Circuit) (ok : Sound c) where
   abbrev masks_domain : Domain → Source → Bool
   masks_domain e s = elim s.kind [ OfTable t ↦ domain_eq e s.domain || masks_test c t.word (labels c ok s.part t) e | OfRegister r ↦ true | OfInput ↦ true | OfClock ↦ true ]
 
-  masks_at : (e : Domain) (s : Source) (t : TableCell) → s.kind ≡ OfTable t → e ≢ s.domain → masks_domain e s ≡ true → masks_test c t.word (labels c ok s.part t) e ≡ true
+  masks_at : (e : Domain) (s : Source) (t : TableCell) → s.kind ≡ OfTable t → e ≢ s.domain → masks_domain e s ≡ true
+      → masks_test c t.word (labels c ok s.part t) e ≡ true
   masks_at e s t ks other h = elim (or_either (domain_eq e s.domain) (masks_test c t.word (labels c ok s.part t) e) (subst (λ (k : Kind). elim k [ OfTable t ↦ domain_eq e s.domain || masks_test c t.word (labels c ok s.part t) e | OfRegister r ↦ true | OfInput ↦ true | OfClock ↦ true ] ≡ true) ks h)) [
     | inl g ↦ absurd (other (domain_is e s.domain g))
     | inr g ↦ g

@@ -1,6 +1,7 @@
 -- Tests that compute, and what they tell.
 use Rattle.std.proofs.Common.{◌≡◌, ℕ, zero, suc, Bool, true, false, not, List, [], ◌∷◌, length, ◌⊎◌, inl, inr, refl, sym, ap, subst, ◌∙◌, eqb, ◌&&◌, ◌||◌, arith}
 use Rattle.std.proofs.lemmas.Bool.Decides.{nat_tests}
+use Rattle.std.specs.Prelude.{Some, slice_get}
 use Rattle.std.specs.List.{list_all, list_any}
 use Rattle.words.specs.Members.{In}
 use Rattle.records.specs.Side.{Domain, D0, D1, D2, Triple}
@@ -199,7 +200,8 @@ pub clash : (b : Bool) → b ≡ true → not b ≡ true → ⊥
 clash true e g = no_false g
 clash false e g = no_false e
 
-pub distinct_in : {X : Type 0} (same : X → X → Bool) → ((x y : X) → same x y ≡ true → same y x ≡ true) → (xs : List X) (x y : X) → distinct same xs ≡ true → In xs x → In xs y → same x y ≡ true → x ≡ y
+pub distinct_in : {X : Type 0} (same : X → X → Bool) → ((x y : X) → same x y ≡ true → same y x ≡ true) → (xs : List X) (x y : X)
+    → distinct same xs ≡ true → In xs x → In xs y → same x y ≡ true → x ≡ y
 distinct_in same swap [] x y d i j e = absurd i
 distinct_in same swap (z ∷ zs) x y d i j e =
     let first = and_left (list_all (λ v. not (same z v)) zs) (distinct same zs) d in
@@ -214,3 +216,9 @@ distinct_in same swap (z ∷ zs) x y d i j e =
         | inr l ↦ distinct_in same swap zs x y rest k l e
       ]
     ]
+
+-- an element at a place of a list
+pub in_at : {X : Type 0} (xs : List X) (n : ℕ) (x : X) → slice_get xs n ≡ Some x → In xs x
+in_at [] n x e = absurd (let no : ⊥ = cc in no)
+in_at (y ∷ ys) zero x e = inl (let same : y ≡ x = cc in same)
+in_at (y ∷ ys) (suc n) x e = inr (in_at ys n x e)

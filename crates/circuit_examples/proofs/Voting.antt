@@ -69,7 +69,8 @@ abbrev pub alike_test : Circuit → ℕ → ℕ → List (Option Source) → Lis
 alike_test c v w ls ms = all_bits (length ls) (λ xs. all_bits (length ms) (λ ys. implies (consistent c (ls ++ ms) (xs ++ ys)) (same_bit (word_bit v xs) (word_bit w ys))))
 
 module _ (c : Circuit) (ok : Sound c) where
-  label_step : (p : Pin) (s : Source) (ss : List Source) (b : Bool) → feeds c s p.wire ≡ b → In (sources c.cells) s → ((a : Source) → FeedsFrom c a p.wire → In (s ∷ ss) a)
+  label_step : (p : Pin) (s : Source) (ss : List Source) (b : Bool) → feeds c s p.wire ≡ b → In (sources c.cells) s
+      → ((a : Source) → FeedsFrom c a p.wire → In (s ∷ ss) a)
       → (((a : Source) → FeedsFrom c a p.wire → In ss a) → Labelled c (first_feeder c p.wire ss) p) → Labelled c (elim b [ true ↦ Some s | false ↦ first_feeder c p.wire ss ]) p
   label_step p s ss true e js all later = feeds_is c ok.formed.outputs.listed s p.wire js e
   label_step p s ss false e js all later = later (λ a f. elim (all a f) [
@@ -77,7 +78,8 @@ module _ (c : Circuit) (ok : Sound c) where
     | inr j ↦ j
   ])
 
-  label_among : (p : Pin) (ss : List Source) → ((s : Source) → In ss s → In (sources c.cells) s) → ((a : Source) → FeedsFrom c a p.wire → In ss a) → Labelled c (first_feeder c p.wire ss) p
+  label_among : (p : Pin) (ss : List Source) → ((s : Source) → In ss s → In (sources c.cells) s)
+      → ((a : Source) → FeedsFrom c a p.wire → In ss a) → Labelled c (first_feeder c p.wire ss) p
   label_among p [] sub all = λ a f. all a f
   label_among p (s ∷ ss) sub all = label_step p s ss (feeds c s p.wire) refl (sub s (inl refl)) all (λ rest. label_among p ss (λ z i. sub z (inr i)) rest)
 
@@ -102,14 +104,16 @@ module _ (c : Circuit) (ok : Sound c) where
   GivenBits bits [] xs = Unit {0}
   GivenBits bits (l ∷ ls) [] = Unit {0}
 
-  given_bits : (bits : PartTriple → Bool) (x : Pin → Bool) (ls : List (Option Source)) (ps : List Pin) → AreLabels c ls ps → Gives bits ps x → GivenBits bits ls (map x ps)
+  given_bits : (bits : PartTriple → Bool) (x : Pin → Bool) (ls : List (Option Source)) (ps : List Pin) → AreLabels c ls ps
+      → Gives bits ps x → GivenBits bits ls (map x ps)
   unfolding Gives
   given_bits bits x [] ps h a = tt
   given_bits bits x (l ∷ ls) [] h a = absurd h
   given_bits bits x (None ∷ ls) (p ∷ ps) h a = given_bits bits x ls ps h.1 (λ q s i. a q s (inr i))
   given_bits bits x (Some s ∷ ls) (p ∷ ps) h a = (a p s (inl refl) h.0, given_bits bits x ls ps h.1 (λ q z i. a q z (inr i)))
 
-  given_join : (bits : PartTriple → Bool) (ls ms : List (Option Source)) (xs ys : List Bool) → length xs ≡ length ls → GivenBits bits ls xs → GivenBits bits ms ys → GivenBits bits (ls ++ ms) (xs ++ ys)
+  given_join : (bits : PartTriple → Bool) (ls ms : List (Option Source)) (xs ys : List Bool) → length xs ≡ length ls
+      → GivenBits bits ls xs → GivenBits bits ms ys → GivenBits bits (ls ++ ms) (xs ++ ys)
   given_join bits [] ms [] ys e g h = h
   given_join bits [] ms (x ∷ xs) ys e g h = absurd (let no : ⊥ = omega arith in no)
   given_join bits (l ∷ ls) ms [] ys e g h = absurd (let no : ⊥ = omega arith in no)
@@ -117,7 +121,8 @@ module _ (c : Circuit) (ok : Sound c) where
   given_join bits (Some s ∷ ls) ms (x ∷ xs) ys e g h = (g.0, given_join bits ls ms xs ys (let l : length xs ≡ length ls = omega arith in l) g.1 h)
 
   -- the bits of an assignment are consistent
-  have_all : (bits : PartTriple → Bool) (t : PartTriple) (ls : List (Option Source)) (xs : List Bool) → GivenBits bits ls xs → all_have c t (bits t) ls xs ≡ true
+  have_all : (bits : PartTriple → Bool) (t : PartTriple) (ls : List (Option Source)) (xs : List Bool) → GivenBits bits ls xs
+      → all_have c t (bits t) ls xs ≡ true
   have_all bits t [] xs g = refl
   have_all bits t (l ∷ ls) [] g = refl
   have_all bits t (None ∷ ls) (x ∷ xs) g = have_all bits t ls xs g
@@ -141,13 +146,15 @@ module _ (c : Circuit) (ok : Sound c) where
   or_else true b h = refl
   or_else false b h = h refl
 
-  agrees : (e : Domain) (x y : Pin → Bool) (ls : List (Option Source)) (ps : List Pin) → AreLabels c ls ps → ((p : Pin) → In ps p → (HasDomain c p.wire e → ⊥) → x p ≡ y p) → agree_but e ls (map x ps) (map y ps) ≡ true
+  agrees : (e : Domain) (x y : Pin → Bool) (ls : List (Option Source)) (ps : List Pin) → AreLabels c ls ps
+      → ((p : Pin) → In ps p → (HasDomain c p.wire e → ⊥) → x p ≡ y p) → agree_but e ls (map x ps) (map y ps) ≡ true
   agrees e x y [] [] h a = refl
   agrees e x y [] (p ∷ ps) h a = absurd h
   agrees e x y (l ∷ ls) [] h a = absurd h
   agrees e x y (l ∷ ls) (p ∷ ps) h a = and_both _ _ (or_else (is_of e l) _ (λ test. equal_bits (x p) (y p) (a p (inl refl) (away e l p h.0 test)))) (agrees e x y ls ps h.1 (λ q i. a q (inr i)))
 
-  gives_from : (bits : PartTriple → Bool) (s : Source) (t : TableCell) (x : Pin → Bool) → In (sources c.cells) s → s.kind ≡ OfTable t → Assigned c bits s t x → Gives bits (table_pins s.part t) x
+  gives_from : (bits : PartTriple → Bool) (s : Source) (t : TableCell) (x : Pin → Bool) → In (sources c.cells) s
+      → s.kind ≡ OfTable t → Assigned c bits s t x → Gives bits (table_pins s.part t) x
   unfolding Gives
   gives_from bits s t x js ks assigned = λ p a i f. assigned p a i (to_pin c a p (bit_pin_listed c.cells s p js (table_bit s t ks p i)) f)
 
@@ -155,7 +162,8 @@ module _ (c : Circuit) (ok : Sound c) where
   labels part t = map (feeder c) (table_pins part t)
 
   -- a table that passes the test for each other domain masks it
-  pub masks_is : (s : Source) (t : TableCell) → In (sources c.cells) s → s.kind ≡ OfTable t → ((e : Domain) → e ≢ s.domain → masks_test c t.word (labels s.part t) e ≡ true) → Masks c s t
+  pub masks_is : (s : Source) (t : TableCell) → In (sources c.cells) s → s.kind ≡ OfTable t
+      → ((e : Domain) → e ≢ s.domain → masks_test c t.word (labels s.part t) e ≡ true) → Masks c s t
   masks_is s t js ks test = λ e bits x y other assigned same.
       let ps = table_pins s.part t in
       let ls = labels s.part t in
@@ -165,7 +173,8 @@ module _ (c : Circuit) (ok : Sound c) where
       bits_equal _ _ (implied _ _ last (agrees e x y ls ps (labels_are ps) same))
 
   -- two tables that pass the test give equal outputs
-  pub alike_is : (s u : Source) (t v : TableCell) → In (sources c.cells) s → In (sources c.cells) u → s.kind ≡ OfTable t → u.kind ≡ OfTable v → alike_test c t.word v.word (labels s.part t) (labels u.part v) ≡ true → TablesAlike c s u t v
+  pub alike_is : (s u : Source) (t v : TableCell) → In (sources c.cells) s → In (sources c.cells) u → s.kind ≡ OfTable t
+      → u.kind ≡ OfTable v → alike_test c t.word v.word (labels s.part t) (labels u.part v) ≡ true → TablesAlike c s u t v
   alike_is s u t v js ju ks ku test = λ bits x y gx gy.
       let ps = table_pins s.part t in
       let qs = table_pins u.part v in

@@ -1,10 +1,12 @@
 -- The triplicated toggle: three slices a0, a1 and a2, in each a table that gives the inverted majority of the three
 -- registers and a register that takes it; three clock pads k0, k1 and k2; and three output pads o0, o1 and o2, each
 -- of which shows the register of its copy. Slice ai stands in column i + 1 of row 1. (Our own.)
-use Rattle.std.specs.Prelude.{ℕ, ◌+◌, ◌*◌, false, not, List, [], ◌∷◌, ◌++◌, filter, ◌==◌, codes}
+use Rattle.std.specs.Prelude.{ℕ, zero, suc, ◌+◌, ◌*◌, Bool, false, not, List, [], ◌∷◌, ◌++◌, filter, ◌==◌, codes}
 use Rattle.links.specs.Links.{Link}
 use Rattle.records.specs.Side.{Domain, D0, D1, D2, Placed, Triple, Side}
 use Rattle.circuit.specs.Cells.{TableCell, InputWire, InputZero, InputOne, RegisterCell, SliceCell, OutputPad, ClockPad, PadCell, Cells}
+use Rattle.circuit.specs.Parts.{Register}
+use Rattle.circuit.specs.Triples.{PartTriple}
 use Rattle.circuit.specs.Circuits.{Circuit}
 use Rattle.circuit.specs.Faults.{Fault}
 
@@ -157,3 +159,15 @@ fault_of_a0 = record { disturbed = q 1 ∷ h1 1 ∷ h1 2 ∷ h1 3 ∷ []; touche
 -- a fault of two copies: a wire that carries the register of a0, and one that carries that of a2
 abbrev pub fault_of_two : Fault
 fault_of_two = record { disturbed = h1 1 ∷ h0 1 ∷ []; touched = [] }
+
+-- the names of the output pads, and the triple of the registers
+abbrev pub toggle_pads : Triple
+toggle_pads = triple (codes "o0") (codes "o1") (codes "o2")
+
+abbrev pub toggle_registers : PartTriple
+toggle_registers = record { cells = triple (codes "a0") (codes "a1") (codes "a2"); part = Register 0 }
+
+-- a bit that is turned in each cycle
+abbrev pub turned : ℕ → Bool → Bool
+turned zero bit = bit
+turned (suc t) bit = not (turned t bit)

@@ -21,7 +21,8 @@ SameBits c ps qs x y = (p q : Pin) (a b : Source) → In ps p → In qs q → Fe
 abbrev pub Gives : Circuit → (PartTriple → Bool) → List Pin → (Pin → Bool) → Type 0
 Gives c bits ps x = (p : Pin) (a : Source) → In ps p → FeedsFrom c a p.wire → x p ≡ bits (group c a)
 
-both_same : (c : Circuit) (ps qs : List Pin) (x : Pin → Bool) → SameBits c ps ps x x → SameBits c qs qs x x → SameBits c ps qs x x → SameBits c (ps ++ qs) (ps ++ qs) x x
+both_same : (c : Circuit) (ps qs : List Pin) (x : Pin → Bool) → SameBits c ps ps x x → SameBits c qs qs x x → SameBits c ps qs x x
+    → SameBits c (ps ++ qs) (ps ++ qs) x x
 both_same c ps qs x pp qq pq = λ p q a b ip iq fa fb e. elim (in_either ps qs p ip) [
   | inl i ↦ elim (in_either ps qs q iq) [ inl j ↦ pp p q a b i j fa fb e | inr j ↦ pq p q a b i j fa fb e ]
   | inr i ↦ elim (in_either ps qs q iq) [ inl j ↦ sym (pq q p b a j i fb fa (sym e)) | inr j ↦ qq p q a b i j fa fb e ]
@@ -45,7 +46,8 @@ module _ (c : Circuit) (ok : Sound c) (x : Pin → Bool) where
   assignment [] t = false
   assignment (p ∷ ps) t = bit_for t p (feed p) (assignment ps t)
 
-  found : (p q : Pin) (a : Source) (rest : Bool) → FeedsFrom c a p.wire → (g : Feed q) → ((b : Source) → FeedsFrom c b q.wire → group c a ≡ group c b → x p ≡ x q) → (q ≡ p) ⊎ (x p ≡ rest)
+  found : (p q : Pin) (a : Source) (rest : Bool) → FeedsFrom c a p.wire → (g : Feed q)
+      → ((b : Source) → FeedsFrom c b q.wire → group c a ≡ group c b → x p ≡ x q) → (q ≡ p) ⊎ (x p ≡ rest)
       → x p ≡ bit_for (group c a) q g rest
   unfolding Feed bit_for
   found p q a rest f (inr h) alike later = elim later [ inl e ↦ absurd (h a (subst (λ z. FeedsFrom c a z.wire) (sym e) f)) | inr e ↦ e ]
@@ -57,7 +59,8 @@ module _ (c : Circuit) (ok : Sound c) (x : Pin → Bool) where
     ]
   ]
 
-  gives_from : (all ps : List Pin) → ((p : Pin) → In ps p → In all p) → SameBits c all all x x → (p : Pin) (a : Source) → In all p → In ps p → FeedsFrom c a p.wire → x p ≡ assignment ps (group c a)
+  gives_from : (all ps : List Pin) → ((p : Pin) → In ps p → In all p) → SameBits c all all x x → (p : Pin) (a : Source) → In all p
+      → In ps p → FeedsFrom c a p.wire → x p ≡ assignment ps (group c a)
   unfolding assignment
   gives_from all [] sub same p a j i f = absurd i
   gives_from all (q ∷ qs) sub same p a j i f =
@@ -68,7 +71,8 @@ module _ (c : Circuit) (ok : Sound c) (x : Pin → Bool) where
   assigned all same = (assignment all, λ p a i f. gives_from all all (λ z iz. iz) same p a i i f)
 
   -- one assignment for the pins of two tables
-  pub assigned_both : (ps qs : List Pin) → SameBits c ps ps x x → SameBits c qs qs x x → SameBits c ps qs x x → (bits : PartTriple → Bool) × (Gives c bits ps x × Gives c bits qs x)
+  pub assigned_both : (ps qs : List Pin) → SameBits c ps ps x x → SameBits c qs qs x x → SameBits c ps qs x x
+      → (bits : PartTriple → Bool) × (Gives c bits ps x × Gives c bits qs x)
   assigned_both ps qs pp qq pq =
       let g = assigned (ps ++ qs) (both_same c ps qs x pp qq pq) in
       (g.0, (λ p a i f. g.1 p a (in_left ps qs p i) f, λ p a i f. g.1 p a (in_right ps qs p i) f))

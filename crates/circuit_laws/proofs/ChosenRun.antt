@@ -77,27 +77,32 @@ module _ (c : Circuit) (ok : Sound c) (free : NoTableLoop c) (f : Fault) (start 
   world_free zero = made_free c ok free f (input 0) (choice 0) (λ r. first_by r (part_named c.cells r))
   world_free (suc t) = made_free c ok free f (input (suc t)) (choice (suc t)) (λ r. next_by (world_at t) (choice (suc t)) r (part_named c.cells r))
 
-  held_first : (s : Source) (r : RegisterCell) → In (sources c.cells) s → s.kind ≡ OfRegister r → (world_at 0).part s.part ≡ first_by s.part (part_named c.cells s.part)
+  held_first : (s : Source) (r : RegisterCell) → In (sources c.cells) s → s.kind ≡ OfRegister r
+      → (world_at 0).part s.part ≡ first_by s.part (part_named c.cells s.part)
   unfolding world_at
   held_first s r js ks = made_register c ok free f (input 0) (choice 0) (λ z. first_by z (part_named c.cells z)) s r js ks
 
-  held_next : (t : ℕ) (s : Source) (r : RegisterCell) → In (sources c.cells) s → s.kind ≡ OfRegister r → (world_at (suc t)).part s.part ≡ next_by (world_at t) (choice (suc t)) s.part (part_named c.cells s.part)
+  held_next : (t : ℕ) (s : Source) (r : RegisterCell) → In (sources c.cells) s → s.kind ≡ OfRegister r
+      → (world_at (suc t)).part s.part ≡ next_by (world_at t) (choice (suc t)) s.part (part_named c.cells s.part)
   unfolding world_at
   held_next t s r js ks = made_register c ok free f (input (suc t)) (choice (suc t)) (λ z. next_by (world_at t) (choice (suc t)) z (part_named c.cells z)) s r js ks
 
-  first_read : (s : Source) → In (sources c.cells) s → IsRead c s → (x : PartNamed c ok free f (input 0) (choice 0) s.part) → first_by s.part x ≡ start (group c s)
+  first_read : (s : Source) → In (sources c.cells) s → IsRead c s → (x : PartNamed c ok free f (input 0) (choice 0) s.part)
+      → first_by s.part x ≡ start (group c s)
   first_read s js read (inl x) =
       let same = part_same c.cells ok.formed.names x.0 s x.1.0 js x.1.1 in
       picked (is_read c ok x.0 x.1.0) _ _ (subst (IsRead c) (sym same) read) ∙ ap (λ z. start (group c z)) same
   first_read s js read (inr n) = absurd (n s js refl)
 
-  first_unread : (s : Source) → In (sources c.cells) s → (IsRead c s → ⊥) → (x : PartNamed c ok free f (input 0) (choice 0) s.part) → first_by s.part x ≡ (choice 0).part s.part
+  first_unread : (s : Source) → In (sources c.cells) s → (IsRead c s → ⊥)
+      → (x : PartNamed c ok free f (input 0) (choice 0) s.part) → first_by s.part x ≡ (choice 0).part s.part
   first_unread s js unread (inl x) =
       let same = part_same c.cells ok.formed.names x.0 s x.1.0 js x.1.1 in
       passed (is_read c ok x.0 x.1.0) _ _ (λ h. unread (subst (IsRead c) same h)) ∙ ap (λ z. (choice 0).part z.part) same
   first_unread s js unread (inr n) = absurd (n s js refl)
 
-  next_register : (now chosen : World) (s : Source) (r : RegisterCell) → In (sources c.cells) s → s.kind ≡ OfRegister r → (x : PartNamed c ok free f (input 0) (choice 0) s.part)
+  next_register : (now chosen : World) (s : Source) (r : RegisterCell) → In (sources c.cells) s → s.kind ≡ OfRegister r
+      → (x : PartNamed c ok free f (input 0) (choice 0) s.part)
       → next_by now chosen s.part x ≡ pick (is_touched f s.part.cell) (chosen.part s.part) (pick (is_clocked now r.clock) (next_bit now s.part r) (chosen.part s.part))
   next_register now chosen s r js ks (inl x) = ap (λ z. next_by_kind now chosen z.part z.kind) (part_same c.cells ok.formed.names x.0 s x.1.0 js x.1.1) ∙ ap (next_by_kind now chosen s.part) ks
   next_register now chosen s r js ks (inr n) = absurd (n s js refl)
@@ -127,16 +132,20 @@ module _ (c : Circuit) (ok : Sound c) (free : NoTableLoop c) (f : Fault) (start 
 
   -- two runs that follow the choice agree
   module _ (n : ℕ) (v w : ℕ → World) (rv : IsRun c f start input n v) (rw : IsRun c f start input n w) (fv : Follows c f choice n v) (fw : Follows c f choice n w) where
-    agree_from : (t : ℕ) → t < n → ((s : Source) (r : RegisterCell) → In (sources c.cells) s → s.kind ≡ OfRegister r → (v t).part s.part ≡ (w t).part s.part) → Agree c (v t) (w t)
+    agree_from : (t : ℕ) → t < n
+        → ((s : Source) (r : RegisterCell) → In (sources c.cells) s → s.kind ≡ OfRegister r
+        → (v t).part s.part ≡ (w t).part s.part) → Agree c (v t) (w t)
     agree_from t lt held = agree c ok free f (input t) (choice t) (v t) (w t) (rv.cycles t lt) (rw.cycles t lt) (fv.cycles t lt) (fw.cycles t lt) held
 
-    held_zero : (lt : 0 < n) (s : Source) (r : RegisterCell) → In (sources c.cells) s → s.kind ≡ OfRegister r → (v 0).part s.part ≡ (w 0).part s.part
+    held_zero : (lt : 0 < n) (s : Source) (r : RegisterCell) → In (sources c.cells) s → s.kind ≡ OfRegister r
+        → (v 0).part s.part ≡ (w 0).part s.part
     held_zero lt s r js ks = elim (is_read c ok s js) [
       | inl h ↦ rv.starts lt s r js ks h ∙ sym (rw.starts lt s r js ks h)
       | inr h ↦ fv.unread lt s r js ks h ∙ sym (fw.unread lt s r js ks h)
     ]
 
-    held_suc : (t : ℕ) (lt : suc t < n) → Agree c (v t) (w t) → (s : Source) (r : RegisterCell) → In (sources c.cells) s → s.kind ≡ OfRegister r → (v t).part s.part ≡ (w t).part s.part
+    held_suc : (t : ℕ) (lt : suc t < n) → Agree c (v t) (w t) → (s : Source) (r : RegisterCell) → In (sources c.cells) s
+        → s.kind ≡ OfRegister r → (v t).part s.part ≡ (w t).part s.part
         → Decided (In f.touched s.part.cell) → Decided (IsClocked (v t) r.clock) → (v (suc t)).part s.part ≡ (w (suc t)).part s.part
     held_suc t lt same s r js ks before (inl h) d = fv.touched t lt s r js ks h ∙ sym (fw.touched t lt s r js ks h)
     held_suc t lt same s r js ks before (inr calm) (inl clocked) =
@@ -150,7 +159,8 @@ module _ (c : Circuit) (ok : Sound c) (free : NoTableLoop c) (f : Fault) (start 
     held_suc t lt same s r js ks before (inr calm) (inr stopped) =
         fv.unclocked t lt s r js ks stopped ∙ sym (fw.unclocked t lt s r js ks (λ h. stopped (clocked_same (w t) (v t) r.clock (λ a. sym (same.wires a)) h)))
 
-    register_agrees : (v w : World) → Agree c v w → (s : Source) (r : RegisterCell) → In (sources c.cells) s → s.kind ≡ OfRegister r → v.part s.part ≡ w.part s.part
+    register_agrees : (v w : World) → Agree c v w → (s : Source) (r : RegisterCell) → In (sources c.cells) s
+        → s.kind ≡ OfRegister r → v.part s.part ≡ w.part s.part
     register_agrees v w same s r js ks = same.parts s js (subst HasBit (sym ks) tt)
 
     pub agree_always : (t : ℕ) → t < n → Agree c (v t) (w t)

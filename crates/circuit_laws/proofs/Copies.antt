@@ -49,7 +49,8 @@ module _ (c : Circuit) (ok : Sound c) (tri : IsTriplicated c) (input : Triple �
   Level : ℕ → Type 0
   Level k = (s u : Source) → ReadPart c s → ReadPart c u → group c s ≡ group c u → NoClock s.kind → NoClock u.kind → Deep c k s → Deep c k u → w.wire s.out ≡ w.wire u.out
 
-  same_bits : (k : ℕ) (s u : Source) (t v : TableCell) → ReadPart c s → ReadPart c u → s.kind ≡ OfTable t → u.kind ≡ OfTable v → Level k → Deep c (suc k) s → Deep c (suc k) u
+  same_bits : (k : ℕ) (s u : Source) (t v : TableCell) → ReadPart c s → ReadPart c u → s.kind ≡ OfTable t → u.kind ≡ OfTable v
+      → Level k → Deep c (suc k) s → Deep c (suc k) u
       → SameBits c (table_pins s.part t) (table_pins u.part v) (bit_of w) (bit_of w)
   unfolding Level
   same_bits k s u t v rs ru ks ku level ds du = λ p q a b ip iq fa fb same.
@@ -60,7 +61,8 @@ module _ (c : Circuit) (ok : Sound c) (tri : IsTriplicated c) (input : Triple �
       pins_same c ok input w iw s u p q a b rs.listed ru.listed bp bq da fa fb
       (level a b (read_at c s a p rs.listed bp fa) (read_at c u b q ru.listed bq fb) same da db (ds a (reads_at c s a t p rs.listed ks ip fa)) (du b (reads_at c u b v q ru.listed ku iq fb)))
 
-  copies_by : (k : ℕ) (s u : Source) (x y : Kind) → ReadPart c s → ReadPart c u → group c s ≡ group c u → s.kind ≡ x → u.kind ≡ y → HeldAlike c w → Level k → Deep c (suc k) s → Deep c (suc k) u → Pairs x y
+  copies_by : (k : ℕ) (s u : Source) (x y : Kind) → ReadPart c s → ReadPart c u → group c s ≡ group c u → s.kind ≡ x → u.kind ≡ y
+      → HeldAlike c w → Level k → Deep c (suc k) s → Deep c (suc k) u → Pairs x y
       → carried_by c.side input w s.part x ≡ carried_by c.side input w u.part y
   copies_by k s u (OfTable t) (OfTable v) rs ru same ks ku held level ds du pairs =
       let g = assigned_both c ok (bit_of w) (table_pins s.part t) (table_pins u.part v) (same_bits k s s t t rs rs ks ks level ds ds) (same_bits k u u v v ru ru ku ku level du du) (same_bits k s u t v rs ru ks ku level ds du) in
@@ -78,6 +80,7 @@ module _ (c : Circuit) (ok : Sound c) (tri : IsTriplicated c) (input : Triple �
       let pairs = pair_up u.part.part s.kind u.kind fits (kind_fits c.cells u ru.listed) cs cu in
       out_is c ok input w iw s rs.listed ∙ (copies_by k s u s.kind u.kind rs ru same refl refl held (copies_at k held) ds du pairs ∙ sym (out_is c ok input w iw u ru.listed))
 
-  pub copies : (k : ℕ) → HeldAlike c w → (s u : Source) → ReadPart c s → ReadPart c u → group c s ≡ group c u → NoClock s.kind → NoClock u.kind → Deep c k s → Deep c k u → w.wire s.out ≡ w.wire u.out
+  pub copies : (k : ℕ) → HeldAlike c w → (s u : Source) → ReadPart c s → ReadPart c u → group c s ≡ group c u → NoClock s.kind
+      → NoClock u.kind → Deep c k s → Deep c k u → w.wire s.out ≡ w.wire u.out
   unfolding Level
   copies k held = copies_at k held

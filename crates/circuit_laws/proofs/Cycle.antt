@@ -22,20 +22,23 @@ bits_same x y b p q e is cx cy =
     cp ∙ sym cq
 
 -- the wires from a cell output on carry one value where none of them that it feeds is disturbed
-carry_along : (c : Circuit) (f : Fault) (input : Triple → Bool) (w : World) → IsCycle c f input w → (o : ℕ) → In c.routing.outputs o → ((x : ℕ) → Feeds c.routing o x → In f.disturbed x → ⊥)
+carry_along : (c : Circuit) (f : Fault) (input : Triple → Bool) (w : World) → IsCycle c f input w → (o : ℕ)
+    → In c.routing.outputs o → ((x : ℕ) → Feeds c.routing o x → In f.disturbed x → ⊥)
     → {a : ℕ} → Below c.routing o a → w.wire a ≡ w.wire o
 carry_along c f input w is o out clear here = refl
 carry_along c f input w is o out clear {a} (onto {b} q s) =
     is.driven a b (clear a (record { output = out; reach = onto q s })) (s, (o, record { output = out; reach = q })) ∙ carry_along c f input w is o out clear q
 
-pub carry : (c : Circuit) (f : Fault) (input : Triple → Bool) (w : World) → IsCycle c f input w → (o a : ℕ) → Feeds c.routing o a → ((x : ℕ) → Feeds c.routing o x → In f.disturbed x → ⊥) → w.wire a ≡ w.wire o
+pub carry : (c : Circuit) (f : Fault) (input : Triple → Bool) (w : World) → IsCycle c f input w → (o a : ℕ) → Feeds c.routing o a
+    → ((x : ℕ) → Feeds c.routing o x → In f.disturbed x → ⊥) → w.wire a ≡ w.wire o
 carry c f input w is o a feeds clear = carry_along c f input w is o feeds.output clear feeds.reach
 
 -- the output of a part that is no clock pad carries a bit
 abbrev pub NoClock : Kind → Type 0
 NoClock k = k ≡ OfClock → ⊥
 
-pub carried_bit : (c : Circuit) (input : Triple → Bool) (w : World) (part : PartRef) (k : Kind) → NoClock k → (b : Bool) × (carried_by c.side input w part k ≡ Bit b)
+pub carried_bit : (c : Circuit) (input : Triple → Bool) (w : World) (part : PartRef) (k : Kind) → NoClock k
+    → (b : Bool) × (carried_by c.side input w part k ≡ Bit b)
 carried_bit c input w part (OfTable t) h = (w.part part, refl)
 carried_bit c input w part (OfRegister r) h = (w.part part, refl)
 carried_bit c input w part OfInput h = (_, refl)
@@ -46,7 +49,8 @@ pub read_at : (c : Circuit) (s u : Source) (p : Pin) → In (sources c.cells) s 
 read_at c s u p js ip f = record { listed = f.source; read = (p, to_pin c u p (bit_pin_listed c.cells s p js ip) f) }
 
 -- as is one that a table reads
-pub reads_at : (c : Circuit) (s u : Source) (t : TableCell) (p : Pin) → In (sources c.cells) s → s.kind ≡ OfTable t → In (table_pins s.part t) p → FeedsFrom c u p.wire → Reads c u s
+pub reads_at : (c : Circuit) (s u : Source) (t : TableCell) (p : Pin) → In (sources c.cells) s → s.kind ≡ OfTable t
+    → In (table_pins s.part t) p → FeedsFrom c u p.wire → Reads c u s
 reads_at c s u t p js ks ip f = record {
   table = t;
   is_table = ks;
@@ -69,7 +73,8 @@ module _ (c : Circuit) (ok : Sound c) (input : Triple → Bool) (v : World) (iv 
   is_bit a w dry f = (let g = carried_bit c input v a.part a.kind dry in (g.0, steady a w f ∙ (out_is a f.source ∙ g.1)))
 
   -- pins fed by equal outputs count as one bit
-  pub pins_same : (s u : Source) (p q : Pin) (a b : Source) → In (sources c.cells) s → In (sources c.cells) u → In (bit_pins s) p → In (bit_pins u) q → NoClock a.kind → FeedsFrom c a p.wire → FeedsFrom c b q.wire
+  pub pins_same : (s u : Source) (p q : Pin) (a b : Source) → In (sources c.cells) s → In (sources c.cells) u → In (bit_pins s) p
+      → In (bit_pins u) q → NoClock a.kind → FeedsFrom c a p.wire → FeedsFrom c b q.wire
       → v.wire a.out ≡ v.wire b.out → v.pin p.ref ≡ v.pin q.ref
   pins_same s u p q a b js ju ip iq dry fa fb e =
       let g = is_bit a p.wire dry fa in

@@ -91,7 +91,8 @@ module _ (c : Circuit) (ok : Sound c) (free : NoTableLoop c) where
     })) in (suc b.0, λ u rd. b.1 u rd.pin (subst (λ z. In (table_pins s.part z) rd.pin) (table_path s.kind rd.table t.0 rd.is_table t.1) rd.takes) (at_pin c u rd.pin rd.connects)))
   ]
 
-  from_nothing : (n : ℕ) (rest : List Source) → length rest ≡ n → (s : Source) → In (sources c.cells) s → ((u : Source) → In (sources c.cells) u → In rest u ⊎ Reaches (Reads c) s u) → (k : ℕ) × Deep c k s
+  from_nothing : (n : ℕ) (rest : List Source) → length rest ≡ n → (s : Source) → In (sources c.cells) s
+      → ((u : Source) → In (sources c.cells) u → In rest u ⊎ Reaches (Reads c) s u) → (k : ℕ) × Deep c k s
   from_nothing zero [] len s js all = from_read s js (λ u rd. elim (all u rd.connects.source) [ inl i ↦ absurd i | inr l ↦ absurd (free u s rd l) ])
   from_nothing zero (x ∷ xs) len s js all = absurd (let no : ⊥ = omega arith in no)
   from_nothing (suc n) rest len s js all = from_read s js (λ u rd. elim (all u rd.connects.source) [

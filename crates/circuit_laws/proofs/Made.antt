@@ -60,15 +60,18 @@ module _ (c : Circuit) (ok : Sound c) (free : NoTableLoop c) (f : Fault) (input 
     wires : ℕ → Value
     wires = solved c ok free f input choice held
 
-    pin_found : (s : Source) (p : Pin) → In (sources c.cells) s → In (bit_pins s) p → (x : PinNamed p.ref) → bit_by_pin wires p.ref x ≡ pin_bit c ok free f input choice wires p
+    pin_found : (s : Source) (p : Pin) → In (sources c.cells) s → In (bit_pins s) p → (x : PinNamed p.ref)
+        → bit_by_pin wires p.ref x ≡ pin_bit c ok free f input choice wires p
     pin_found s p js ip (inl x) = ap (pin_bit c ok free f input choice wires) (pin_same c.cells ok.formed.names x.1.1.0 p (bit_pin_listed c.cells x.0 x.1.1.0 x.1.0 x.1.1.1.0) (bit_pin_listed c.cells s p js ip) x.1.1.1.1)
     pin_found s p js ip (inr n) = absurd (n s p js ip refl)
 
-    made_pin : (s : Source) (p : Pin) → In (sources c.cells) s → In (bit_pins s) p → bit_of (made held) p ≡ pin_bit c ok free f input choice wires p
+    made_pin : (s : Source) (p : Pin) → In (sources c.cells) s → In (bit_pins s) p
+        → bit_of (made held) p ≡ pin_bit c ok free f input choice wires p
     unfolding made wires
     made_pin s p js ip = pin_found s p js ip (pin_named c.cells p.ref)
 
-    part_found : (s : Source) → In (sources c.cells) s → (x : PartNamed s.part) → bit_by_part held wires s.part x ≡ bit_by_kind held wires s.part s.kind
+    part_found : (s : Source) → In (sources c.cells) s → (x : PartNamed s.part)
+        → bit_by_part held wires s.part x ≡ bit_by_kind held wires s.part s.kind
     part_found s js (inl x) = ap (λ z. bit_by_kind held wires z.part z.kind) (part_same c.cells ok.formed.names x.0 s x.1.0 js x.1.1)
     part_found s js (inr n) = absurd (n s js refl)
 
@@ -76,17 +79,20 @@ module _ (c : Circuit) (ok : Sound c) (free : NoTableLoop c) (f : Fault) (input 
     unfolding made wires
     made_part s js = part_found s js (part_named c.cells s.part)
 
-    made_table : (s : Source) (t : TableCell) → In (sources c.cells) s → s.kind ≡ OfTable t → (made held).part s.part ≡ table_output s.part t (pin_bit c ok free f input choice wires)
+    made_table : (s : Source) (t : TableCell) → In (sources c.cells) s → s.kind ≡ OfTable t
+        → (made held).part s.part ≡ table_output s.part t (pin_bit c ok free f input choice wires)
     made_table s t js ks = made_part s js ∙ ap (bit_by_kind held wires s.part) ks
 
     pub made_register : (s : Source) (r : RegisterCell) → In (sources c.cells) s → s.kind ≡ OfRegister r → (made held).part s.part ≡ held s.part
     made_register s r js ks = made_part s js ∙ ap (bit_by_kind held wires s.part) ks
 
-    pad_found : (p : PadCell) → In (output_pads c.cells) p → (x : PadNamed p.name) → shown_by_pad wires p.name x ≡ pick (is_touched f p.name) (choice.shown p.name) (wires p.wire)
+    pad_found : (p : PadCell) → In (output_pads c.cells) p → (x : PadNamed p.name)
+        → shown_by_pad wires p.name x ≡ pick (is_touched f p.name) (choice.shown p.name) (wires p.wire)
     pad_found p jp (inl x) = ap (λ z. pick (is_touched f z.name) (choice.shown z.name) (wires z.wire)) (pad_same c.cells ok.formed.names x.0 p x.1.0 jp x.1.1)
     pad_found p jp (inr n) = absurd (n p jp refl)
 
-    made_shown : (p : PadCell) → In (output_pads c.cells) p → (made held).shown p.name ≡ pick (is_touched f p.name) (choice.shown p.name) (wires p.wire)
+    made_shown : (p : PadCell) → In (output_pads c.cells) p
+        → (made held).shown p.name ≡ pick (is_touched f p.name) (choice.shown p.name) (wires p.wire)
     unfolding made wires
     made_shown p jp = pad_found p jp (pad_named c.cells p.name)
 
@@ -99,11 +105,13 @@ module _ (c : Circuit) (ok : Sound c) (free : NoTableLoop c) (f : Fault) (input 
     wire_is a = fixed c ok free f input choice held a
 
     -- the step at an output of a named part
-    at_named : (s : Source) → In (sources c.cells) s → (x : NamedAt c s.out) → loose_or c ok free f input choice held wires s.out x ≡ from_part c ok free f input choice held wires s
+    at_named : (s : Source) → In (sources c.cells) s → (x : NamedAt c s.out)
+        → loose_or c ok free f input choice held wires s.out x ≡ from_part c ok free f input choice held wires s
     at_named s js (inl x) = ap (from_part c ok free f input choice held wires) (ok.formed.outputs.alone x.0 s x.1.0 js x.1.1)
     at_named s js (inr n) = absurd (n s js refl)
 
-    at_source : (s : Source) → In (sources c.cells) s → (x : DrivenBy c s.out) → driven_or c ok free f input choice held wires s.out x ≡ from_part c ok free f input choice held wires s
+    at_source : (s : Source) → In (sources c.cells) s → (x : DrivenBy c s.out)
+        → driven_or c ok free f input choice held wires s.out x ≡ from_part c ok free f input choice held wires s
     at_source s js (inl b) = absurd (undriven c ok s b.0 js b.1)
     at_source s js (inr n) = at_named s js (named_at c s.out)
 
@@ -113,7 +121,8 @@ module _ (c : Circuit) (ok : Sound c) (free : NoTableLoop c) (f : Fault) (input 
     at_driven a b h (inr n) = absurd (n b h)
 
     -- the step at a wire that nothing names
-    at_loose : (a : ℕ) → ((b : ℕ) → Counting c.routing b a → ⊥) → ((s : Source) → In (sources c.cells) s → s.out ≢ a) → (x : DrivenBy c a) (y : NamedAt c a)
+    at_loose : (a : ℕ) → ((b : ℕ) → Counting c.routing b a → ⊥) → ((s : Source) → In (sources c.cells) s → s.out ≢ a)
+        → (x : DrivenBy c a) (y : NamedAt c a)
         → driven_or c ok free f input choice held wires a x ≡ choice.wire a
     at_loose a none alone (inl x) y = absurd (none x.0 x.1)
     at_loose a none alone (inr n) y = by_name (named_at c a)
@@ -122,7 +131,8 @@ module _ (c : Circuit) (ok : Sound c) (free : NoTableLoop c) (f : Fault) (input 
         by_name (inl z) = absurd (alone z.0 z.1.0 z.1.1)
         by_name (inr m) = refl
 
-    gives_carried : (s : Source) (k : Kind) → In (sources c.cells) s → s.kind ≡ k → gives c ok free f input choice held wires s.part k ≡ carried_by c.side input (made held) s.part k
+    gives_carried : (s : Source) (k : Kind) → In (sources c.cells) s → s.kind ≡ k
+        → gives c ok free f input choice held wires s.part k ≡ carried_by c.side input (made held) s.part k
     gives_carried s (OfTable t) js ks = ap Bit (sym (made_table s t js ks))
     gives_carried s (OfRegister r) js ks = ap Bit (sym (made_register s r js ks))
     gives_carried s OfInput js ks = refl
@@ -142,7 +152,8 @@ module _ (c : Circuit) (ok : Sound c) (free : NoTableLoop c) (f : Fault) (input 
     touched_free s js h (inl d) = refl
     touched_free s js h (inr n) = at_source s js (driver c.routing s.out) ∙ picked (is_touched f s.part.cell) _ _ h
 
-    loose_free : (a : ℕ) → ((b : ℕ) → Counting c.routing b a → ⊥) → ((s : Source) → In (sources c.cells) s → s.out ≢ a) → (d : Decided (In f.disturbed a))
+    loose_free : (a : ℕ) → ((b : ℕ) → Counting c.routing b a → ⊥) → ((s : Source) → In (sources c.cells) s → s.out ≢ a)
+        → (d : Decided (In f.disturbed a))
         → pick d (choice.wire a) (driven_or c ok free f input choice held wires a (driver c.routing a)) ≡ choice.wire a
     loose_free a none alone (inl d) = refl
     loose_free a none alone (inr n) = at_loose a none alone (driver c.routing a) (named_at c a)
@@ -161,20 +172,24 @@ module _ (c : Circuit) (ok : Sound c) (free : NoTableLoop c) (f : Fault) (input 
     pub pin_is : (s : Source) (p : Pin) → In (sources c.cells) s → In (bit_pins s) p → bit_of w p ≡ pin_bit c ok free f input choice w.wire p
     pin_is s p js ip = counted_is (w.wire p.wire) (choice.pin p.ref) (bit_of w p) (is.pins s p js ip) (λ e. taken.pins s p js ip e)
 
-    pub table_is : (s : Source) (t : TableCell) → In (sources c.cells) s → s.kind ≡ OfTable t → w.part s.part ≡ table_output s.part t (pin_bit c ok free f input choice w.wire)
+    pub table_is : (s : Source) (t : TableCell) → In (sources c.cells) s → s.kind ≡ OfTable t
+        → w.part s.part ≡ table_output s.part t (pin_bit c ok free f input choice w.wire)
     table_is s t js ks = is.tables s t js ks ∙ output_same s.part t _ _ (λ p ip. pin_is s p js (table_bit s t ks p ip))
 
-    carried_is : (s : Source) (k : Kind) → In (sources c.cells) s → s.kind ≡ k → carried_by c.side input w s.part k ≡ gives c ok free f input choice w.part w.wire s.part k
+    carried_is : (s : Source) (k : Kind) → In (sources c.cells) s → s.kind ≡ k
+        → carried_by c.side input w s.part k ≡ gives c ok free f input choice w.part w.wire s.part k
     carried_is s (OfTable t) js ks = ap Bit (table_is s t js ks)
     carried_is s (OfRegister r) js ks = refl
     carried_is s OfInput js ks = refl
     carried_is s OfClock js ks = refl
 
-    by_part : (s : Source) → In (sources c.cells) s → (In f.disturbed s.out → ⊥) → (d : Decided (In f.touched s.part.cell)) → w.wire s.out ≡ pick d (choice.wire s.out) (gives c ok free f input choice w.part w.wire s.part s.kind)
+    by_part : (s : Source) → In (sources c.cells) s → (In f.disturbed s.out → ⊥) → (d : Decided (In f.touched s.part.cell))
+        → w.wire s.out ≡ pick d (choice.wire s.out) (gives c ok free f input choice w.part w.wire s.part s.kind)
     by_part s js quiet (inl h) = taken.touched s js h
     by_part s js quiet (inr calm) = is.outputs s js quiet calm ∙ carried_is s s.kind js refl
 
-    by_name : (a : ℕ) → (In f.disturbed a → ⊥) → ((b : ℕ) → Counting c.routing b a → ⊥) → (x : NamedAt c a) → w.wire a ≡ loose_or c ok free f input choice w.part w.wire a x
+    by_name : (a : ℕ) → (In f.disturbed a → ⊥) → ((b : ℕ) → Counting c.routing b a → ⊥) → (x : NamedAt c a)
+        → w.wire a ≡ loose_or c ok free f input choice w.part w.wire a x
     by_name a quiet none (inl x) = ap w.wire (sym x.1.1) ∙ by_part x.0 x.1.0 (λ h. quiet (subst (In f.disturbed) x.1.1 h)) (is_touched f x.0.part.cell)
     by_name a quiet none (inr n) = taken.loose a none n
 
@@ -182,14 +197,16 @@ module _ (c : Circuit) (ok : Sound c) (free : NoTableLoop c) (f : Fault) (input 
     by_driver a quiet (inl b) = is.driven a b.0 quiet b.1
     by_driver a quiet (inr n) = by_name a quiet n (named_at c a)
 
-    by_fault : (a : ℕ) (d : Decided (In f.disturbed a)) → w.wire a ≡ pick d (choice.wire a) (driven_or c ok free f input choice w.part w.wire a (driver c.routing a))
+    by_fault : (a : ℕ) (d : Decided (In f.disturbed a))
+        → w.wire a ≡ pick d (choice.wire a) (driven_or c ok free f input choice w.part w.wire a (driver c.routing a))
     by_fault a (inl h) = taken.disturbed a h
     by_fault a (inr quiet) = by_driver a quiet (driver c.routing a)
 
     pub solves : (a : ℕ) → w.wire a ≡ step c ok free f input choice w.part w.wire a
     solves a = by_fault a (is_disturbed f a)
 
-    pub shown_is : (p : PadCell) → In (output_pads c.cells) p → (d : Decided (In f.touched p.name)) → w.shown p.name ≡ pick d (choice.shown p.name) (w.wire p.wire)
+    pub shown_is : (p : PadCell) → In (output_pads c.cells) p → (d : Decided (In f.touched p.name))
+        → w.shown p.name ≡ pick d (choice.shown p.name) (w.wire p.wire)
     shown_is p jp (inl h) = taken.shows p jp h
     shown_is p jp (inr calm) = is.shows p jp calm
 

@@ -55,7 +55,8 @@ tables_pair t v e =
     record { word = ap (λ z. z.word) shapes; pins = sym (shape_pins t) ∙ (ap (λ z. length z.pins) shapes ∙ shape_pins v) }
 
 -- a pin of a table and the one of the same number of another
-twin_pin : (part : PartRef) (n : ℕ) (ws vs : List ℕ) → length ws ≡ length vs → (p : Pin) → In (numbered (pin_at part) n ws) p → (q : Pin) × (In (numbered (pin_at part) n vs) q × (q.ref ≡ p.ref))
+twin_pin : (part : PartRef) (n : ℕ) (ws vs : List ℕ) → length ws ≡ length vs → (p : Pin) → In (numbered (pin_at part) n ws) p
+    → (q : Pin) × (In (numbered (pin_at part) n vs) q × (q.ref ≡ p.ref))
 twin_pin part n [] vs e p i = absurd i
 twin_pin part n (w ∷ ws) [] e p i = absurd (let no : ⊥ = omega arith in no)
 twin_pin part n (w ∷ ws) (v ∷ vs) e p i = elim i [
@@ -90,7 +91,8 @@ module _ (c e : Circuit) (oc : Sound c) (oe : Sound e) (tc : IsTriplicated c) (t
 
   module _ (input : Triple → Bool) (v w : World) (iv : IsCycle c no_fault input v) (iw : IsCycle e no_fault input w) (held : HeldInBoth v w) where
     -- pins of one name fed by outputs that carry the same count as one bit
-    pins_agree : (s u a b : Source) (p q : Pin) → ReadPart c s → In (sources e.cells) u → In (bit_pins s) p → In (bit_pins u) q → FeedsFrom c a p.wire → FeedsFrom e b q.wire → v.wire a.out ≡ w.wire b.out → bit_of v p ≡ bit_of w q
+    pins_agree : (s u a b : Source) (p q : Pin) → ReadPart c s → In (sources e.cells) u → In (bit_pins s) p → In (bit_pins u) q
+        → FeedsFrom c a p.wire → FeedsFrom e b q.wire → v.wire a.out ≡ w.wire b.out → bit_of v p ≡ bit_of w q
     pins_agree s u a b p q rs ju ip iq fa fb h =
         let g = is_bit c oc input v iv a p.wire (dry c tc s a p rs ip fa) fa in
         bits_same (v.wire p.wire) (w.wire q.wire) g.0 (bit_of v p) (bit_of w q) (steady c oc input v iv a p.wire fa ∙ (h ∙ sym (steady e oe input w iw b q.wire fb))) g.1 (iv.pins s p rs.listed ip) (iw.pins u q ju iq)
@@ -99,7 +101,8 @@ module _ (c e : Circuit) (oc : Sound c) (oe : Sound e) (tc : IsTriplicated c) (t
     AgreeAbove s = (a b : Source) → Reads c a s → ReadPart c a → ReadPart e b → a.part ≡ b.part → v.wire a.out ≡ w.wire b.out
 
     -- a pin of a table counts as one bit in both, or the table ignores it
-    table_pin_agrees : (s u : Source) (t x : TableCell) (p : Pin) → ReadPart c s → In (sources e.cells) u → s.part ≡ u.part → s.kind ≡ OfTable t → u.kind ≡ OfTable x → length t.pins ≡ length x.pins → AgreeAbove s
+    table_pin_agrees : (s u : Source) (t x : TableCell) (p : Pin) → ReadPart c s → In (sources e.cells) u → s.part ≡ u.part
+        → s.kind ≡ OfTable t → u.kind ≡ OfTable x → length t.pins ≡ length x.pins → AgreeAbove s
         → In (table_pins s.part t) p → (bit_of v p ≡ bit_of w p) ⊎ Indifferent (length t.pins) t.word p.ref.pin
     unfolding AgreeAbove
     table_pin_agrees s u t x p rs ju parts ks ku count agrees ip =
@@ -114,7 +117,8 @@ module _ (c e : Circuit) (oc : Sound c) (oe : Sound e) (tc : IsTriplicated c) (t
               inl (pins_agree s u a.source b.source p q.0 rs ju bp bq a.feeds b.feeds h ∙ ap w.pin q.1.1))
         ]
 
-    outputs_by : (s u : Source) (x y : Kind) → ReadPart c s → ReadPart e u → s.part ≡ u.part → s.kind ≡ x → u.kind ≡ y → kind_shape x ≡ kind_shape y → AgreeAbove s
+    outputs_by : (s u : Source) (x y : Kind) → ReadPart c s → ReadPart e u → s.part ≡ u.part → s.kind ≡ x → u.kind ≡ y
+        → kind_shape x ≡ kind_shape y → AgreeAbove s
         → carried_by c.side input v s.part x ≡ carried_by e.side input w u.part y
     outputs_by s u (OfTable t) (OfTable x) rs ru parts ks ku shape agrees =
         let pair = tables_pair t x shape in
@@ -141,7 +145,8 @@ module _ (c e : Circuit) (oc : Sound c) (oe : Sound e) (tc : IsTriplicated c) (t
     feeds_agree a b ra rb parts = (let deep = ordered c oc tc.no_loop a ra.listed in outputs_agree deep.0 a b ra rb parts deep.1)
 
     -- two registers of one name take the same at each pin
-    register_pin : (s u : Source) (q r : RegisterCell) (x y : Pin) → ReadPart c s → ReadPart e u → s.kind ≡ OfRegister q → u.kind ≡ OfRegister r → In (data_pins s.part q) x → In (data_pins u.part r) y → x.ref ≡ y.ref
+    register_pin : (s u : Source) (q r : RegisterCell) (x y : Pin) → ReadPart c s → ReadPart e u → s.kind ≡ OfRegister q
+        → u.kind ≡ OfRegister r → In (data_pins s.part q) x → In (data_pins u.part r) y → x.ref ≡ y.ref
         → bit_of v x ≡ bit_of w y
     register_pin s u q r x y rs ru ks ku ix iy refs =
         let bx = register_bit s q ks x ix in
@@ -169,12 +174,14 @@ module _ (c e : Circuit) (oc : Sound c) (oe : Sound e) (tc : IsTriplicated c) (t
         let carries = feeds_agree a.0 b.source (pad_reads c oc tc p a.0 jp a.1.0) (pad_reads e oe te q.0 b.source q.1.0 b.feeds) b.part in
         iv.shows p jp (λ h. h) ∙ (steady c oc input v iv a.0 p.wire a.1.0 ∙ (carries ∙ (sym (steady e oe input w iw b.source q.0.wire b.feeds) ∙ (sym (iw.shows q.0 q.1.0 (λ h. h)) ∙ ap w.shown q.1.1))))
 
-  register_shapes : (s u : Source) (q r : RegisterCell) → In (sources c.cells) s → In (sources e.cells) u → s.part ≡ u.part → s.kind ≡ OfRegister q → u.kind ≡ OfRegister r → register_shape q ≡ register_shape r
+  register_shapes : (s u : Source) (q r : RegisterCell) → In (sources c.cells) s → In (sources e.cells) u → s.part ≡ u.part
+      → s.kind ≡ OfRegister q → u.kind ≡ OfRegister r → register_shape q ≡ register_shape r
   register_shapes s u q r js ju parts ks ku =
       let h : OfRegister (register_shape q) ≡ OfRegister (register_shape r) = ap kind_shape (sym ks) ∙ (kinds_same s u js ju parts ∙ ap kind_shape ku) in
       cc
 
-  held_next : (input : Triple → Bool) (v w vn wn : World) → IsCycle c no_fault input v → IsCycle e no_fault input w → IsStep c no_fault v vn → IsStep e no_fault w wn → HeldInBoth v w → HeldInBoth vn wn
+  held_next : (input : Triple → Bool) (v w vn wn : World) → IsCycle c no_fault input v → IsCycle e no_fault input w
+      → IsStep c no_fault v vn → IsStep e no_fault w wn → HeldInBoth v w → HeldInBoth vn wn
   held_next input v w vn wn iv iw sv sw held = λ s u q r rs ru parts ks ku.
       let shape = register_shapes s u q r rs.listed ru.listed parts ks ku in
       sv s q rs.listed ks (λ h. h) (clocked c oc tc input v iv s q rs ks)

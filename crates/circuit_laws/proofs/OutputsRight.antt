@@ -63,7 +63,8 @@ masked c ok tri f within =
     (g.0, λ start input n faulty is t lt p jp out. λ m right ir lm. shows_always c ok tri f g.0 g.1 start input m n right faulty ir is t lm lt p jp out)
 
 -- a cell with the name of a pad has the pad's domain
-pad_of : (c : Circuit) → Sound c → (name : List ℕ) (d : Domain) → LiesIn c.cells name d → IsPad c.cells OutputPad name → (p : PadCell) × (In (output_pads c.cells) p × ((p.name ≡ name) × (p.domain ≡ d)))
+pad_of : (c : Circuit) → Sound c → (name : List ℕ) (d : Domain) → LiesIn c.cells name d → IsPad c.cells OutputPad name
+    → (p : PadCell) × (In (output_pads c.cells) p × ((p.name ≡ name) × (p.domain ≡ d)))
 pad_of c ok name d i pad = elim (in_either _ _ _ i) [
   | inl j ↦ (let s = of_map (λ z. let m : Member = record { name = z.name; domain = z.domain } in m) c.cells.slices (record { name = name; domain = d }) j in
       absurd (ok.formed.names.kinds s.0 pad.0 s.1.0 pad.1.0 (ap (λ z. z.name) s.1.1 ∙ sym pad.1.1)))
@@ -86,10 +87,12 @@ module _ (c : Circuit) (ok : Sound c) (tri : IsTriplicated c) (o : Triple) (jo :
   third_pad = pad_of c ok o.third D2 (tri.entries.third o listed) (ok.formed.triples.outputs o o.third jo (inr (inr (inl refl))))
 
   module _ (f : Fault) (start : PartTriple → Bool) (input : ℕ → Triple → Bool) (n : ℕ) (run : ℕ → World) (is : IsRun c f start input n run) (t : ℕ) (lt : t < n) (by : Circuit) where
-    right_at : (d e : Domain) (name : List ℕ) → KeepsOutside by c f d → (p : PadCell) × (In (output_pads c.cells) p × ((p.name ≡ name) × (p.domain ≡ e))) → (e ≡ d → ⊥) → IsRight by start input t (run t) name
+    right_at : (d e : Domain) (name : List ℕ) → KeepsOutside by c f d
+        → (p : PadCell) × (In (output_pads c.cells) p × ((p.name ≡ name) × (p.domain ≡ e))) → (e ≡ d → ⊥) → IsRight by start input t (run t) name
     right_at d e name right p away = subst (IsRight by start input t (run t)) p.1.1.0 (right start input n run is t lt p.0 p.1.0 (λ h. away (sym p.1.1.1 ∙ h)))
 
-    pub two_right : (d : Domain) → KeepsOutside by c f d → TwoOfThree (IsRight by start input t (run t) o.first) (IsRight by start input t (run t) o.second) (IsRight by start input t (run t) o.third)
+    pub two_right : (d : Domain) → KeepsOutside by c f d
+        → TwoOfThree (IsRight by start input t (run t) o.first) (IsRight by start input t (run t) o.second) (IsRight by start input t (run t) o.third)
     two_right D0 right = inr (inr (right_at D0 D1 o.second right second_pad (λ e. (let no : ⊥ = cc in no)), right_at D0 D2 o.third right third_pad (λ e. (let no : ⊥ = cc in no))))
     two_right D1 right = inr (inl (right_at D1 D0 o.first right first_pad (λ e. (let no : ⊥ = cc in no)), right_at D1 D2 o.third right third_pad (λ e. (let no : ⊥ = cc in no))))
     two_right D2 right = inl (right_at D2 D0 o.first right first_pad (λ e. (let no : ⊥ = cc in no)), right_at D2 D1 o.second right second_pad (λ e. (let no : ⊥ = cc in no)))
@@ -99,7 +102,8 @@ two_of_three c ok tri f within = λ start input n run is t lt o jo. (let g = mas
 
 -- undisturbed, the pads of an output triple show the same
 module _ (c : Circuit) (ok : Sound c) (tri : IsTriplicated c) (start : PartTriple → Bool) (input : ℕ → Triple → Bool) (n : ℕ) (run : ℕ → World) (is : IsRun c no_fault start input n run) (t : ℕ) (lt : t < n) where
-  pads_agree : (o : Triple) (p q : PadCell) → In c.side.outputs o → In (output_pads c.cells) p → In (output_pads c.cells) q → IsEntry o p.name → IsEntry o q.name → (run t).shown p.name ≡ (run t).shown q.name
+  pads_agree : (o : Triple) (p q : PadCell) → In c.side.outputs o → In (output_pads c.cells) p → In (output_pads c.cells) q
+      → IsEntry o p.name → IsEntry o q.name → (run t).shown p.name ≡ (run t).shown q.name
   pads_agree o p q jo jp jq ep eq =
       let g = tri.copies.outputs o p q jo jp jq ep eq in
       let a = g.first in

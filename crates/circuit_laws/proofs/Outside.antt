@@ -34,7 +34,8 @@ pub record Feeder (c : Circuit) (s : Source) (p : Pin) : Type 0 where
   pub feeds : FeedsFrom c source p.wire
   pub own : (source.domain ≡ s.domain) ⊎ IsVoter c s.part
 
-feeder_of : (c : Circuit) (s : Source) (p : Pin) → HasDomain c p.wire s.domain ⊎ (IsVoter c s.part × ((d : Domain) × HasDomain c p.wire d)) → Feeder c s p
+feeder_of : (c : Circuit) (s : Source) (p : Pin)
+    → HasDomain c p.wire s.domain ⊎ (IsVoter c s.part × ((d : Domain) × HasDomain c p.wire d)) → Feeder c s p
 feeder_of c s p h = elim h [
   | inl g ↦ record { source = g.source; feeds = record { source = g.listed; feeds = g.feeds }; own = inl g.domain }
   | inr g ↦ (let k = g.1.1 in record { source = k.source; feeds = record { source = k.listed; feeds = k.feeds }; own = inr g.0 })
@@ -59,7 +60,8 @@ module _ (c : Circuit) (ok : Sound c) (tri : IsTriplicated c) (input : Triple �
   out_outside a i out = iw.outputs a i (clear a i out a.out (feeds_own c ok a i).feeds) (untouched a i out)
 
   -- a pin fed from outside the domain counts as one bit in both worlds
-  pub pin_outside : (s a : Source) (p : Pin) → In (sources c.cells) s → In (bit_pins s) p → NoClock a.kind → FeedsFrom c a p.wire → a.domain ≢ d → v.wire a.out ≡ w.wire a.out → bit_of v p ≡ bit_of w p
+  pub pin_outside : (s a : Source) (p : Pin) → In (sources c.cells) s → In (bit_pins s) p → NoClock a.kind → FeedsFrom c a p.wire
+      → a.domain ≢ d → v.wire a.out ≡ w.wire a.out → bit_of v p ≡ bit_of w p
   pin_outside s a p js ip bits g out e =
       let b = is_bit c ok input v iv a p.wire bits g in
       bits_same (v.wire p.wire) (w.wire p.wire) b.0 (bit_of v p) (bit_of w p)
@@ -77,7 +79,8 @@ module _ (c : Circuit) (ok : Sound c) (tri : IsTriplicated c) (input : Triple �
   AgreesAbove s = (u : Source) → Reads c u s → ReadPart c u → u.domain ≢ d → v.wire u.out ≡ w.wire u.out
 
   -- mixed bits are those of the undisturbed world but at pins fed from the domain
-  mixed_undisturbed : (s : Source) (t : TableCell) (p : Pin) → ReadPart c s → s.kind ≡ OfTable t → In (table_pins s.part t) p → AgreesAbove s → (HasDomain c p.wire d → ⊥)
+  mixed_undisturbed : (s : Source) (t : TableCell) (p : Pin) → ReadPart c s → s.kind ≡ OfTable t → In (table_pins s.part t) p
+      → AgreesAbove s → (HasDomain c p.wire d → ⊥)
       → (x : Fed c.routing p.wire ⊎ (Fed c.routing p.wire → ⊥)) → bit_of v p ≡ choose p x
   unfolding choose AgreesAbove
   mixed_undisturbed s t p rs ks ip agrees away (inr x) = refl
@@ -95,7 +98,8 @@ module _ (c : Circuit) (ok : Sound c) (tri : IsTriplicated c) (input : Triple �
   mixed_faulty s t p rs ks ip (inl x) = inl refl
   mixed_faulty s t p rs ks ip (inr x) = inr (subst (λ k. Ignores k p.ref.pin) ks (tri.open_pins.parts s p rs (table_bit s t ks p ip) x))
 
-  own_bits : (k : ℕ) (s : Source) (t : TableCell) → ReadPart c s → s.kind ≡ OfTable t → HeldAlike c v → Deep c (suc k) s → SameBits c (table_pins s.part t) (table_pins s.part t) (bit_of v) (bit_of v)
+  own_bits : (k : ℕ) (s : Source) (t : TableCell) → ReadPart c s → s.kind ≡ OfTable t → HeldAlike c v → Deep c (suc k) s
+      → SameBits c (table_pins s.part t) (table_pins s.part t) (bit_of v) (bit_of v)
   own_bits k s t rs ks held deep = λ p q a b ip iq fa fb same.
       let bp = table_bit s t ks p ip in
       let bq = table_bit s t ks q iq in
@@ -104,7 +108,8 @@ module _ (c : Circuit) (ok : Sound c) (tri : IsTriplicated c) (input : Triple �
       pins_same c ok input v iv s s p q a b rs.listed rs.listed bp bq da fa fb
       (copies c ok tri input v iv k held a b (read_at c s a p rs.listed bp fa) (read_at c s b q rs.listed bq fb) same da db (deep a (reads_at c s a t p rs.listed ks ip fa)) (deep b (reads_at c s b t q rs.listed ks iq fb)))
 
-  agree_by : (k : ℕ) (s : Source) (x : Kind) → ReadPart c s → s.domain ≢ d → s.kind ≡ x → HeldAlike c v → HeldOutside c d v w → Deep c (suc k) s → AgreesAbove s
+  agree_by : (k : ℕ) (s : Source) (x : Kind) → ReadPart c s → s.domain ≢ d → s.kind ≡ x → HeldAlike c v → HeldOutside c d v w
+      → Deep c (suc k) s → AgreesAbove s
       → carried_by c.side input v s.part x ≡ carried_by c.side input w s.part x
   unfolding mixed
   agree_by k s (OfTable t) rs out ks held outside deep agrees =

@@ -23,7 +23,8 @@ pub record OfSlice (s : SliceCell) (x : Source) : Type 0 where
   pub fits : Fits x.part.part x.kind
 
 -- an element of a numbered list is made of an element and its number
-pub of_numbered : {X Y : Type 0} (make : ℕ → X → Y) (n : ℕ) (xs : List X) (y : Y) → In (numbered make n xs) y → (m : ℕ) × ((x : X) × (In xs x × ((make m x ≡ y) × (n ≤ m))))
+pub of_numbered : {X Y : Type 0} (make : ℕ → X → Y) (n : ℕ) (xs : List X) (y : Y) → In (numbered make n xs) y
+    → (m : ℕ) × ((x : X) × (In xs x × ((make m x ≡ y) × (n ≤ m))))
 of_numbered make n [] y i = absurd i
 of_numbered make n (x ∷ xs) y i = elim i [
   | inl e ↦ (n, (x, (inl refl, (e, (let h : n ≤ n = omega arith in h)))))
@@ -75,7 +76,8 @@ source_lies cells x i = elim (of_sources cells x i) [
 ]
 
 -- a filtered list holds those elements of the list that pass
-of_filter_by : {X : Type 0} (test : X → Bool) (y : X) (ys : List X) (x : X) (b : Bool) → test y ≡ b → (In (filter test ys) x → In ys x × (test x ≡ true))
+of_filter_by : {X : Type 0} (test : X → Bool) (y : X) (ys : List X) (x : X) (b : Bool) → test y ≡ b
+    → (In (filter test ys) x → In ys x × (test x ≡ true))
     → In (cond b (y ∷ filter test ys) (filter test ys)) x → In (y ∷ ys) x × (test x ≡ true)
 of_filter_by test y ys x false e later i = (let g = later i in (inr g.0, g.1))
 of_filter_by test y ys x true e later i = elim i [
@@ -87,7 +89,8 @@ pub of_filter : {X : Type 0} (test : X → Bool) (xs : List X) (x : X) → In (f
 of_filter test [] x i = absurd i
 of_filter test (y ∷ ys) x i = of_filter_by test y ys x (test y) refl (λ j. of_filter test ys x j) i
 
-in_filter_by : {X : Type 0} (test : X → Bool) (y : X) (ys : List X) (x : X) (b : Bool) → test y ≡ b → test x ≡ true → (In ys x → In (filter test ys) x)
+in_filter_by : {X : Type 0} (test : X → Bool) (y : X) (ys : List X) (x : X) (b : Bool) → test y ≡ b → test x ≡ true
+    → (In ys x → In (filter test ys) x)
     → In (y ∷ ys) x → In (cond b (y ∷ filter test ys) (filter test ys)) x
 in_filter_by test y ys x true e pass later i = elim i [ inl same ↦ inl same | inr j ↦ inr (later j) ]
 in_filter_by test y ys x false e pass later i = elim i [
@@ -125,6 +128,3 @@ register_bit s r ks p i = subst (λ k. In (bit_pins_of s.part k) p) (sym ks) i
 
 pub table_path : (k : Kind) (t v : TableCell) → k ≡ OfTable t → k ≡ OfTable v → t ≡ v
 table_path k t v e g = (let h : OfTable t ≡ OfTable v = sym e ∙ g in cc)
-
-pub register_path : (k : Kind) (q r : RegisterCell) → k ≡ OfRegister q → k ≡ OfRegister r → q ≡ r
-register_path k q r e g = (let h : OfRegister q ≡ OfRegister r = sym e ∙ g in cc)

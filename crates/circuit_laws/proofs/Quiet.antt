@@ -23,7 +23,9 @@ cycle_under c f g inc input w is = record {
   shows = λ p jp calm. is.shows p jp (λ d. calm (inc.touched p.name d));
 }
 
-pub run_under : (c : Circuit) (f g : Fault) → Includes f g → (start : PartTriple → Bool) (input : ℕ → Triple → Bool) (n : ℕ) (run : ℕ → World) → IsRun c g start input n run → IsRun c f start input n run
+pub run_under : (c : Circuit) (f g : Fault) → Includes f g
+    → (start : PartTriple → Bool) (input : ℕ → Triple → Bool) (n : ℕ) (run : ℕ → World) → IsRun c g start input n run
+    → IsRun c f start input n run
 run_under c f g inc start input n run is = record {
   starts = is.starts;
   cycles = λ t lt. cycle_under c f g inc (input t) (run t) (is.cycles t lt);

@@ -92,7 +92,8 @@ data_pin part r p i = elim (in_either (input_pin part 0 r.input ++ input_pin par
   | inl j ↦ elim (in_either (input_pin part 0 r.input) (input_pin part 1 r.enable) p j) [ inl k ↦ (0, k) | inr k ↦ (1, k) ]
 ]
 
-register_pin : (part : PartRef) (r : RegisterCell) (p : Pin) → In (data_pins part r ++ input_pin part 3 r.clock) p → (n : ℕ) × In (input_pin part n (input_at r n)) p
+register_pin : (part : PartRef) (r : RegisterCell) (p : Pin) → In (data_pins part r ++ input_pin part 3 r.clock) p
+    → (n : ℕ) × In (input_pin part n (input_at r n)) p
 register_pin part r p i = elim (in_either (data_pins part r) (input_pin part 3 r.clock) p i) [ inl j ↦ data_pin part r p j | inr k ↦ (3, k) ]
 
 -- what is known of the pin where a register takes a wire
@@ -144,7 +145,8 @@ of_pins cells p i = elim (in_either (flat_map source_pins (sources cells)) (map 
 ]
 
 -- an output pad is no part with an output
-pad_no_source : (cells : Cells) → NamesApart cells → (s : Source) (d : PadCell) → In (sources cells) s → In (output_pads cells) d → s.part ≡ pad_part d → ⊥
+pad_no_source : (cells : Cells) → NamesApart cells → (s : Source) (d : PadCell) → In (sources cells) s → In (output_pads cells) d
+    → s.part ≡ pad_part d → ⊥
 pad_no_source cells names s d js jd e = elim (of_sources cells s js) [
   | inl g ↦ names.kinds g.0 d g.1.0 (of_output_pads cells d jd) (sym (of_slice g.0 s g.1.1).cell ∙ ap (λ z. z.cell) e)
   | inr g ↦ (let same : g.0 ≡ d = names.pads g.0 d g.1.0 (of_output_pads cells d jd) (ap (λ z. z.cell) (sym (of_pad_by g.0 g.0.role s g.1.1).part ∙ e)) in
@@ -187,7 +189,8 @@ same_pin_ref x y = elim (same_ref x.part y.part) [
 ]
 
 -- the part with a name, or that there is none
-pub part_named : (cells : Cells) (r : PartRef) → ((s : Source) × (In (sources cells) s × (s.part ≡ r))) ⊎ ((s : Source) → In (sources cells) s → s.part ≡ r → ⊥)
+pub part_named : (cells : Cells) (r : PartRef)
+    → ((s : Source) × (In (sources cells) s × (s.part ≡ r))) ⊎ ((s : Source) → In (sources cells) s → s.part ≡ r → ⊥)
 part_named cells r = any_of (λ s. s.part ≡ r) (λ s. same_ref s.part r) (sources cells)
 
 HasPin : PinRef → Source → Type 0
@@ -207,8 +210,10 @@ pin_named cells r = elim (any_of (HasPin r) (has_pin r) (sources cells)) [
 ]
 
 -- the output pad with a name, or that there is none
-pub pad_named : (cells : Cells) (name : List ℕ) → ((p : PadCell) × (In (output_pads cells) p × (p.name ≡ name))) ⊎ ((p : PadCell) → In (output_pads cells) p → p.name ≡ name → ⊥)
+pub pad_named : (cells : Cells) (name : List ℕ)
+    → ((p : PadCell) × (In (output_pads cells) p × (p.name ≡ name))) ⊎ ((p : PadCell) → In (output_pads cells) p → p.name ≡ name → ⊥)
 pad_named cells name = any_of (λ p. p.name ≡ name) (λ p. same_name p.name name) (output_pads cells)
 
-pub pad_same : (cells : Cells) → NamesApart cells → (p q : PadCell) → In (output_pads cells) p → In (output_pads cells) q → p.name ≡ q.name → p ≡ q
+pub pad_same : (cells : Cells) → NamesApart cells → (p q : PadCell) → In (output_pads cells) p → In (output_pads cells) q
+    → p.name ≡ q.name → p ≡ q
 pad_same cells names p q i j e = names.pads p q (of_output_pads cells p i) (of_output_pads cells q j) e

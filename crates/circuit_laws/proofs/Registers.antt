@@ -26,7 +26,8 @@ pub reset_listed : (part : PartRef) (r : RegisterCell) (p : Pin) → In (input_p
 reset_listed part r p i = in_right (input_pin part 0 r.input ++ input_pin part 1 r.enable) (input_pin part 2 r.reset) p i
 
 -- the next bit goes by what the register takes
-pub next_same : (v w : World) (s u : PartRef) (q r : RegisterCell) → taken v s 2 q.reset ≡ taken w u 2 r.reset → q.set ≡ r.set → taken v s 1 q.enable ≡ taken w u 1 r.enable → taken v s 0 q.input ≡ taken w u 0 r.input
+pub next_same : (v w : World) (s u : PartRef) (q r : RegisterCell) → taken v s 2 q.reset ≡ taken w u 2 r.reset → q.set ≡ r.set
+    → taken v s 1 q.enable ≡ taken w u 1 r.enable → taken v s 0 q.input ≡ taken w u 0 r.input
     → v.part s ≡ w.part u → next_bit v s q ≡ next_bit w u r
 next_same v w s u q r a b c d e =
     ap (λ x. if x then q.set else (if taken v s 1 q.enable then taken v s 0 q.input else v.part s)) a
@@ -36,7 +37,8 @@ next_same v w s u q r a b c d e =
     ∙ ap (λ x. if taken w u 2 r.reset then r.set else (if taken w u 1 r.enable then taken w u 0 r.input else x)) e)))
 
 -- one input takes the same in two worlds in which its pin counts as one bit
-pub same_taken : (v w : World) (part : PartRef) (n : ℕ) (x : Input) → ((p : Pin) → In (input_pin part n x) p → bit_of v p ≡ bit_of w p) → taken v part n x ≡ taken w part n x
+pub same_taken : (v w : World) (part : PartRef) (n : ℕ) (x : Input)
+    → ((p : Pin) → In (input_pin part n x) p → bit_of v p ≡ bit_of w p) → taken v part n x ≡ taken w part n x
 same_taken v w part n (InputWire a) h = h (pin_at part n a) (inl refl)
 same_taken v w part n (InputNotWire a) h = ap not (h (pin_at part n a) (inl refl))
 same_taken v w part n InputZero h = refl
@@ -68,7 +70,8 @@ no_voter c s r i ks voter =
     subst (λ z. Fits z (OfRegister r)) voter.1.0 fits
 
 -- each pin of a read register but its clock is fed from the register's own domain
-pub register_fed : (c : Circuit) → IsTriplicated c → (s : Source) (r : RegisterCell) (p : Pin) → ReadPart c s → s.kind ≡ OfRegister r → In (data_pins s.part r) p → (g : Feeder c s p) × (g.source.domain ≡ s.domain)
+pub register_fed : (c : Circuit) → IsTriplicated c → (s : Source) (r : RegisterCell) (p : Pin) → ReadPart c s
+    → s.kind ≡ OfRegister r → In (data_pins s.part r) p → (g : Feeder c s p) × (g.source.domain ≡ s.domain)
 register_fed c tri s r p rs ks ip =
     let bp = register_bit s r ks p ip in
     elim (is_fed c.routing p.wire) [

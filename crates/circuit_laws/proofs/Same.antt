@@ -1,6 +1,6 @@
--- Names, parts, triples and domains can be told apart.
+-- Names, parts and triples can be told apart.
 use Rattle.std.proofs.Common.{◌≡◌, ◌≢◌, ℕ, List, [], ◌∷◌, ◌⊎◌, inl, inr, refl, ap, ◌∙◌}
-use Rattle.records.specs.Side.{Domain, D0, D1, D2, Triple}
+use Rattle.records.specs.Side.{Triple}
 use Rattle.circuit.specs.Parts.{PartKind, Table, Register, Pad, PartRef}
 use Rattle.circuit.specs.Triples.{PartTriple}
 use Rattle.links.proofs.Members.{same_number}
@@ -30,17 +30,6 @@ same_part (Register m) (Table n) = inr (λ h. (let no : ⊥ = cc in no))
 same_part (Register m) Pad = inr (λ h. (let no : ⊥ = cc in no))
 same_part Pad (Table n) = inr (λ h. (let no : ⊥ = cc in no))
 same_part Pad (Register n) = inr (λ h. (let no : ⊥ = cc in no))
-
-pub same_domain : (x y : Domain) → Same x y
-same_domain D0 D0 = inl refl
-same_domain D1 D1 = inl refl
-same_domain D2 D2 = inl refl
-same_domain D0 D1 = inr (λ h. (let no : ⊥ = cc in no))
-same_domain D0 D2 = inr (λ h. (let no : ⊥ = cc in no))
-same_domain D1 D0 = inr (λ h. (let no : ⊥ = cc in no))
-same_domain D1 D2 = inr (λ h. (let no : ⊥ = cc in no))
-same_domain D2 D0 = inr (λ h. (let no : ⊥ = cc in no))
-same_domain D2 D1 = inr (λ h. (let no : ⊥ = cc in no))
 
 pub triple_path : (t u : Triple) → t.first ≡ u.first → t.second ≡ u.second → t.third ≡ u.third → t ≡ u
 triple_path t u a b c = λ i. record { first = a i; second = b i; third = c i }

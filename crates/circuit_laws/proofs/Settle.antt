@@ -34,7 +34,8 @@ settle_right c zero k a h = absurd h
 settle_right c (suc n) k a h = (λ b e. settle_right c n k b (h.0 b e), λ s t j ks e p ip. settle_right c n k p.wire (h.1 s t j ks e p ip))
 
 -- the part whose output a wire is, or that there is none
-pub named_at : (c : Circuit) (a : ℕ) → ((s : Source) × (In (sources c.cells) s × (s.out ≡ a))) ⊎ ((s : Source) → In (sources c.cells) s → s.out ≡ a → ⊥)
+pub named_at : (c : Circuit) (a : ℕ)
+    → ((s : Source) × (In (sources c.cells) s × (s.out ≡ a))) ⊎ ((s : Source) → In (sources c.cells) s → s.out ≡ a → ⊥)
 named_at c a = any_of (λ s. s.out ≡ a) (λ s. same_number s.out a) (sources c.cells)
 
 module _ (c : Circuit) (ok : Sound c) where
@@ -77,7 +78,8 @@ module _ (c : Circuit) (ok : Sound c) where
       )
 
   -- the output of a part is settled where the pins of its table are
-  settle_table : (s : Source) (t : TableCell) → In (sources c.cells) s → s.kind ≡ OfTable t → (k : ℕ) × ((p : Pin) → In (table_pins s.part t) p → Settles c k p.wire) → (j : ℕ) × Settles c j s.out
+  settle_table : (s : Source) (t : TableCell) → In (sources c.cells) s → s.kind ≡ OfTable t
+      → (k : ℕ) × ((p : Pin) → In (table_pins s.part t) p → Settles c k p.wire) → (j : ℕ) × Settles c j s.out
   settle_table s t js ks g = (
     suc g.0,
     (

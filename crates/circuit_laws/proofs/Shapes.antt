@@ -16,7 +16,8 @@ kind_shape OfClock = OfClock
 abbrev pub source_shape : Source → Source
 source_shape s = record { part = s.part; domain = s.domain; kind = kind_shape s.kind; out = 0 }
 
-map_numbered : {X Y Z W : Type 0} (h : Y → Z) (make : ℕ → X → Y) (g : X → W) (other : ℕ → W → Z) → ((n : ℕ) (x : X) → h (make n x) ≡ other n (g x)) → (n : ℕ) (xs : List X) → map h (numbered make n xs) ≡ numbered other n (map g xs)
+map_numbered : {X Y Z W : Type 0} (h : Y → Z) (make : ℕ → X → Y) (g : X → W) (other : ℕ → W → Z)
+    → ((n : ℕ) (x : X) → h (make n x) ≡ other n (g x)) → (n : ℕ) (xs : List X) → map h (numbered make n xs) ≡ numbered other n (map g xs)
 map_numbered h make g other same n [] = refl
 map_numbered h make g other same n (x ∷ xs) = ap (λ z. z ∷ map h (numbered make (suc n) xs)) (same n x) ∙ ap (λ zs. other n (g x) ∷ zs) (map_numbered h make g other same (suc n) xs)
 
@@ -24,7 +25,8 @@ map_join : {X Y : Type 0} (h : X → Y) (xs ys : List X) → map h (xs ++ ys) �
 map_join h [] ys = refl
 map_join h (x ∷ xs) ys = ap (λ zs. h x ∷ zs) (map_join h xs ys)
 
-map_flat : {X Y Z W : Type 0} (h : Y → Z) (f : X → List Y) (g : X → W) (other : W → List Z) → ((x : X) → map h (f x) ≡ other (g x)) → (xs : List X) → map h (flat_map f xs) ≡ flat_map other (map g xs)
+map_flat : {X Y Z W : Type 0} (h : Y → Z) (f : X → List Y) (g : X → W) (other : W → List Z)
+    → ((x : X) → map h (f x) ≡ other (g x)) → (xs : List X) → map h (flat_map f xs) ≡ flat_map other (map g xs)
 map_flat h f g other same [] = refl
 map_flat h f g other same (x ∷ xs) = map_join h (f x) (flat_map f xs) ∙ (ap (λ zs. zs ++ map h (flat_map f xs)) (same x) ∙ ap (λ zs. other (g x) ++ zs) (map_flat h f g other same xs))
 
@@ -46,7 +48,8 @@ sources_shape cells =
     ∙ (ap (λ zs. zs ++ map source_shape (flat_map pad_sources cells.pads)) (map_flat source_shape slice_sources slice_shape slice_sources slice_shapes cells.slices)
     ∙ ap (λ zs. flat_map slice_sources (map slice_shape cells.slices) ++ zs) (map_flat source_shape pad_sources pad_shape pad_sources (λ p. pad_shapes_by p p.role) cells.pads))
 
-filter_by : {X Y : Type 0} (g : X → Y) (test : Y → Bool) (x : X) (xs : List X) (b : Bool) → map g (cond b (x ∷ filter (λ z. test (g z)) xs) (filter (λ z. test (g z)) xs)) ≡ cond b (g x ∷ map g (filter (λ z. test (g z)) xs)) (map g (filter (λ z. test (g z)) xs))
+filter_by : {X Y : Type 0} (g : X → Y) (test : Y → Bool) (x : X) (xs : List X) (b : Bool)
+    → map g (cond b (x ∷ filter (λ z. test (g z)) xs) (filter (λ z. test (g z)) xs)) ≡ cond b (g x ∷ map g (filter (λ z. test (g z)) xs)) (map g (filter (λ z. test (g z)) xs))
 filter_by g test x xs true = refl
 filter_by g test x xs false = refl
 
@@ -58,12 +61,14 @@ pads_shape : (cells : Cells) → map pad_shape (output_pads cells) ≡ output_pa
 pads_shape cells = map_filter pad_shape (λ p. is_output p.role) cells.pads
 
 -- a part of one circuit is, but for wires, a part of the other
-pub twin_source : (a b : Cells) → shape_of a ≡ shape_of b → (s : Source) → In (sources a) s → (u : Source) × (In (sources b) u × (source_shape u ≡ source_shape s))
+pub twin_source : (a b : Cells) → shape_of a ≡ shape_of b → (s : Source) → In (sources a) s
+    → (u : Source) × (In (sources b) u × (source_shape u ≡ source_shape s))
 twin_source a b same s js =
     let shapes : map source_shape (sources a) ≡ map source_shape (sources b) = sources_shape a ∙ (ap sources same ∙ sym (sources_shape b)) in
     of_map source_shape (sources b) (source_shape s) (subst (λ z. In z (source_shape s)) shapes (in_map source_shape (sources a) s js))
 
-pub twin_pad : (a b : Cells) → shape_of a ≡ shape_of b → (p : PadCell) → In (output_pads a) p → (q : PadCell) × (In (output_pads b) q × (q.name ≡ p.name))
+pub twin_pad : (a b : Cells) → shape_of a ≡ shape_of b → (p : PadCell) → In (output_pads a) p
+    → (q : PadCell) × (In (output_pads b) q × (q.name ≡ p.name))
 twin_pad a b same p jp =
     let shapes : map pad_shape (output_pads a) ≡ map pad_shape (output_pads b) = pads_shape a ∙ (ap output_pads same ∙ sym (pads_shape b)) in
     let g = of_map pad_shape (output_pads b) (pad_shape p) (subst (λ z. In z (pad_shape p)) shapes (in_map pad_shape (output_pads a) p jp)) in

@@ -38,7 +38,8 @@ map_same : (x y : Pin → Bool) (ps : List Pin) → ((p : Pin) → In ps p → x
 map_same x y [] h = refl
 map_same x y (p ∷ ps) h = ap (λ b. b ∷ map x ps) (h p (inl refl)) ∙ ap (λ bs. y p ∷ bs) (map_same x y ps (λ q j. h q (inr j)))
 
-pub output_same : (part : PartRef) (t : TableCell) (x y : Pin → Bool) → ((p : Pin) → In (table_pins part t) p → x p ≡ y p) → table_output part t x ≡ table_output part t y
+pub output_same : (part : PartRef) (t : TableCell) (x y : Pin → Bool) → ((p : Pin) → In (table_pins part t) p → x p ≡ y p)
+    → table_output part t x ≡ table_output part t y
 output_same part t x y h = ap (word_bit t.word) (map_same x y (table_pins part t) h)
 
 abbrev pub Decided : Type 0 → Type 0
@@ -112,7 +113,8 @@ module _ (c : Circuit) (ok : Sound c) (free : NoTableLoop c) (f : Fault) (input 
   loose_local g h v w a (inl x) held same = ap (pick (is_touched f x.0.part.cell) (choice.wire x.0.out)) (gives_local g h v w x.0 x.0.kind x.1.0 refl held (λ t ks p ip. same x.0 t x.1.0 ks x.1.1 p ip))
   loose_local g h v w a (inr x) held same = refl
 
-  driven_local : (g h : PartRef → Bool) (v w : ℕ → Value) (a : ℕ) (o : DrivenBy c a) → HeldSame g h → ((b : ℕ) → Counting c.routing b a → v b ≡ w b)
+  driven_local : (g h : PartRef → Bool) (v w : ℕ → Value) (a : ℕ) (o : DrivenBy c a) → HeldSame g h
+      → ((b : ℕ) → Counting c.routing b a → v b ≡ w b)
       → ((s : Source) (t : TableCell) → In (sources c.cells) s → s.kind ≡ OfTable t → s.out ≡ a → (p : Pin) → In (table_pins s.part t) p → v p.wire ≡ w p.wire) → driven_or g v a o ≡ driven_or h w a o
   driven_local g h v w a (inl b) held by_driver by_pins = by_driver b.0 b.1
   driven_local g h v w a (inr n) held by_driver by_pins = loose_local g h v w a (named_at c a) held by_pins
@@ -122,7 +124,8 @@ module _ (c : Circuit) (ok : Sound c) (free : NoTableLoop c) (f : Fault) (input 
   step_local g h v w a held by_driver by_pins = ap (pick (is_disturbed f a) (choice.wire a)) (driven_local g h v w a (driver c.routing a) held by_driver by_pins)
 
   -- two solutions are one
-  pub unique : (g h : PartRef → Bool) (v w : ℕ → Value) → HeldSame g h → ((a : ℕ) → v a ≡ step g v a) → ((a : ℕ) → w a ≡ step h w a) → (k a : ℕ) → Settles c k a → v a ≡ w a
+  pub unique : (g h : PartRef → Bool) (v w : ℕ → Value) → HeldSame g h → ((a : ℕ) → v a ≡ step g v a)
+      → ((a : ℕ) → w a ≡ step h w a) → (k a : ℕ) → Settles c k a → v a ≡ w a
   unique g h v w held sv sw zero a s = absurd s
   unique g h v w held sv sw (suc k) a s =
       sv a ∙ (step_local g h v w a held (λ b e. unique g h v w held sv sw k b (s.0 b e)) (λ u t j ks e p ip. unique g h v w held sv sw k p.wire (s.1 u t j ks e p ip)) ∙ sym (sw a))

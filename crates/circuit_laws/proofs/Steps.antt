@@ -24,7 +24,8 @@ use Rattle.circuit_laws.proofs.Registers.{input_listed, enable_listed, reset_lis
 
 module _ (c : Circuit) (ok : Sound c) (tri : IsTriplicated c) where
   -- in an undisturbed cycle each read register is clocked
-  pub clocked : (input : Triple → Bool) (v : World) → IsCycle c no_fault input v → (s : Source) (r : RegisterCell) → ReadPart c s → s.kind ≡ OfRegister r → IsClocked v r.clock
+  pub clocked : (input : Triple → Bool) (v : World) → IsCycle c no_fault input v → (s : Source) (r : RegisterCell) → ReadPart c s
+      → s.kind ≡ OfRegister r → IsClocked v r.clock
   clocked input v iv s r rs ks =
       let g = tri.clocks.clocked s r rs ks in
       let a = g.1.1.0 in
@@ -33,7 +34,8 @@ module _ (c : Circuit) (ok : Sound c) (tri : IsTriplicated c) where
       clocked_at v s.part r.clock g.0 (clock_pin_of s r g.0 ks g.1.0) carries
 
   -- pins of two read registers that one triple feeds count as one bit
-  copied_pin : (input : Triple → Bool) (v : World) → IsCycle c no_fault input v → HeldAlike c v → (s u : Source) (q r : RegisterCell) (x y : Pin) → ReadPart c s → ReadPart c u
+  copied_pin : (input : Triple → Bool) (v : World) → IsCycle c no_fault input v → HeldAlike c v
+      → (s u : Source) (q r : RegisterCell) (x y : Pin) → ReadPart c s → ReadPart c u
       → s.kind ≡ OfRegister q → u.kind ≡ OfRegister r → In (data_pins s.part q) x → In (data_pins u.part r) y → FedAlike c x y → bit_of v x ≡ bit_of v y
   copied_pin input v iv held s u q r x y rs ru ks ku ix iy fed =
       let bx = register_bit s q ks x ix in
@@ -49,7 +51,8 @@ module _ (c : Circuit) (ok : Sound c) (tri : IsTriplicated c) where
       pins_same c ok input v iv s u x y a b rs.listed ru.listed bx by na fa fb
       (copies c ok tri input v iv (plus da.0 db.0) held a b (read_at c s a x rs.listed bx fa) (read_at c u b y ru.listed by fb) fed.same na nb (deep_right c da.0 db.0 a da.1) (deep_left c da.0 db.0 b db.1))
 
-  copies_next : (input : Triple → Bool) (v next : World) → IsCycle c no_fault input v → IsStep c no_fault v next → HeldAlike c v → HeldAlike c next
+  copies_next : (input : Triple → Bool) (v next : World) → IsCycle c no_fault input v → IsStep c no_fault v next → HeldAlike c v
+      → HeldAlike c next
   copies_next input v next iv step held = λ s u q r rs ru same ks ku.
       let alike = tri.copies.registers s u q r rs ru ks ku same in
       step s q rs.listed ks (λ h. h) (clocked input v iv s q rs ks)
@@ -61,7 +64,8 @@ module _ (c : Circuit) (ok : Sound c) (tri : IsTriplicated c) where
       ∙ sym (step u r ru.listed ku (λ h. h) (clocked input v iv u r ru ku)))
 
   -- in an undisturbed run the read registers of a triple hold one bit in each cycle
-  pub copies_always : (start : PartTriple → Bool) (input : ℕ → Triple → Bool) (n : ℕ) (run : ℕ → World) → IsRun c no_fault start input n run → (t : ℕ) → t < n → HeldAlike c (run t)
+  pub copies_always : (start : PartTriple → Bool) (input : ℕ → Triple → Bool) (n : ℕ) (run : ℕ → World)
+      → IsRun c no_fault start input n run → (t : ℕ) → t < n → HeldAlike c (run t)
   copies_always start input n run is zero lt = λ s u q r rs ru same ks ku. is.starts lt s q rs.listed ks rs.read ∙ (ap start same ∙ sym (is.starts lt u r ru.listed ku ru.read))
   copies_always start input n run is (suc t) lt =
       let before : t < n = omega arith in
@@ -75,14 +79,16 @@ module _ (c : Circuit) (ok : Sound c) (tri : IsTriplicated c) where
   pad_reads p a jp f = record { listed = f.source; read = (pad_pin p, to_pin c a (pad_pin p) (pad_pin_listed c.cells p jp) f) }
 
   -- what feeds the clock pin of a read register is of its domain
-  clock_domain : (s : Source) (r : RegisterCell) (p : Pin) → ReadPart c s → s.kind ≡ OfRegister r → In (clock_pins s) p → (a : Source) → FeedsFrom c a p.wire → a.domain ≡ s.domain
+  clock_domain : (s : Source) (r : RegisterCell) (p : Pin) → ReadPart c s → s.kind ≡ OfRegister r → In (clock_pins s) p
+      → (a : Source) → FeedsFrom c a p.wire → a.domain ≡ s.domain
   clock_domain s r p rs ks ip a fa = elim (tri.own.parts s p rs (in_right (bit_pins s) (clock_pins s) p ip) (a.out, fa.feeds)) [
     | inl h ↦ domain_is c ok a p.wire s.domain fa h
     | inr h ↦ absurd (no_voter c s r rs.listed ks h.0)
   ]
 
   module _ (f : Fault) (d : Domain) (within : (e : Domain) → FaultHas c f e → e ≡ d) where
-    clocked_outside : (input : Triple → Bool) (v w : World) → IsCycle c no_fault input v → IsCycle c f input w → (s : Source) (r : RegisterCell) → ReadPart c s → s.domain ≢ d → s.kind ≡ OfRegister r → IsClocked w r.clock
+    clocked_outside : (input : Triple → Bool) (v w : World) → IsCycle c no_fault input v → IsCycle c f input w
+        → (s : Source) (r : RegisterCell) → ReadPart c s → s.domain ≢ d → s.kind ≡ OfRegister r → IsClocked w r.clock
     clocked_outside input v w iv iw s r rs out ks =
         let g = tri.clocks.clocked s r rs ks in
         let a = g.1.1.0 in
@@ -93,7 +99,8 @@ module _ (c : Circuit) (ok : Sound c) (tri : IsTriplicated c) where
         ∙ (out_outside c ok tri input v iv f d within w iw a fa.source away ∙ ap (carried_by c.side input w a.part) g.1.1.1.1) in
         clocked_at w s.part r.clock g.0 (clock_pin_of s r g.0 ks g.1.0) carries
 
-    held_pin : (input : Triple → Bool) (v w : World) → IsCycle c no_fault input v → IsCycle c f input w → HeldAlike c v → HeldOutside c d v w → (s : Source) (r : RegisterCell) (p : Pin) → ReadPart c s → s.domain ≢ d
+    held_pin : (input : Triple → Bool) (v w : World) → IsCycle c no_fault input v → IsCycle c f input w → HeldAlike c v
+        → HeldOutside c d v w → (s : Source) (r : RegisterCell) (p : Pin) → ReadPart c s → s.domain ≢ d
         → s.kind ≡ OfRegister r → In (data_pins s.part r) p → bit_of v p ≡ bit_of w p
     held_pin input v w iv iw held outside s r p rs out ks ip =
         let bp = register_bit s r ks p ip in
@@ -105,7 +112,8 @@ module _ (c : Circuit) (ok : Sound c) (tri : IsTriplicated c) where
         pin_outside c ok tri input v iv f d within w iw s a p rs.listed bp (dry c tri s a p rs bp fa) fa away
         (agree c ok tri input v iv f d within w iw deep.0 a (read_at c s a p rs.listed bp fa) away held outside deep.1)
 
-    held_next : (input : Triple → Bool) (v w vn wn : World) → IsCycle c no_fault input v → IsCycle c f input w → IsStep c no_fault v vn → IsStep c f w wn → HeldAlike c v → HeldOutside c d v w → HeldOutside c d vn wn
+    held_next : (input : Triple → Bool) (v w vn wn : World) → IsCycle c no_fault input v → IsCycle c f input w
+        → IsStep c no_fault v vn → IsStep c f w wn → HeldAlike c v → HeldOutside c d v w → HeldOutside c d vn wn
     held_next input v w vn wn iv iw sv sw held outside = λ s r rs out ks.
         sv s r rs.listed ks (λ h. h) (clocked input v iv s r rs ks)
         ∙ (next_same v w s.part s.part r r
@@ -115,7 +123,8 @@ module _ (c : Circuit) (ok : Sound c) (tri : IsTriplicated c) where
         (outside s r rs out ks)
         ∙ sym (sw s r rs.listed ks (λ h. out (within s.domain (inr (s.part.cell, (h, source_lies c.cells s rs.listed))))) (clocked_outside input v w iv iw s r rs out ks)))
 
-    shows_outside : (input : Triple → Bool) (v w : World) → IsCycle c no_fault input v → IsCycle c f input w → HeldAlike c v → HeldOutside c d v w → (p : PadCell) → In (output_pads c.cells) p → p.domain ≢ d → w.shown p.name ≡ v.shown p.name
+    shows_outside : (input : Triple → Bool) (v w : World) → IsCycle c no_fault input v → IsCycle c f input w → HeldAlike c v
+        → HeldOutside c d v w → (p : PadCell) → In (output_pads c.cells) p → p.domain ≢ d → w.shown p.name ≡ v.shown p.name
     shows_outside input v w iv iw held outside p jp out =
         let g = pad_feeder p jp in
         let a = g.0 in
@@ -135,5 +144,6 @@ module _ (c : Circuit) (ok : Sound c) (tri : IsTriplicated c) where
           let bn : t < n = omega arith in
           held_next (input t) (right t) (faulty t) (right (suc t)) (faulty (suc t)) (ir.cycles t bm) (is.cycles t bn) (ir.steps t lm) (is.steps t ln) (copies_always start input m right ir t bm) (held_always t bm bn)
 
-      pub shows_always : (t : ℕ) → t < m → t < n → (p : PadCell) → In (output_pads c.cells) p → p.domain ≢ d → (faulty t).shown p.name ≡ (right t).shown p.name
+      pub shows_always : (t : ℕ) → t < m → t < n → (p : PadCell) → In (output_pads c.cells) p → p.domain ≢ d
+          → (faulty t).shown p.name ≡ (right t).shown p.name
       shows_always t lm ln p jp out = shows_outside (input t) (right t) (faulty t) (ir.cycles t lm) (is.cycles t ln) (copies_always start input m right ir t lm) (held_always t lm ln) p jp out

@@ -12,13 +12,15 @@ abbrev pub Indifferent : ℕ → ℕ → ℕ → Type 0
 Indifferent count word n = (bits : List Bool) → length bits ≡ count → word_bit word (set bits n true) ≡ word_bit word (set bits n false)
 
 module _ (count word : ℕ) where
-  one_turned : (n : ℕ) → Indifferent count word n → (xs ys : List Bool) → length xs ≡ n → length xs + suc (length ys) ≡ count → word_bit word (xs ++ true ∷ ys) ≡ word_bit word (xs ++ false ∷ ys)
+  one_turned : (n : ℕ) → Indifferent count word n → (xs ys : List Bool) → length xs ≡ n → length xs + suc (length ys) ≡ count
+      → word_bit word (xs ++ true ∷ ys) ≡ word_bit word (xs ++ false ∷ ys)
   one_turned n same xs ys e len =
       let h = same (xs ++ true ∷ ys) (length-append xs (true ∷ ys) ∙ len) in
       ap (word_bit word) (sym (set_at xs true ys true n e)) ∙ (h ∙ ap (word_bit word) (set_at xs true ys false n e))
 
   -- the bit at an ignored place may be another one
-  turned : (n : ℕ) → Indifferent count word n → (a b : Bool) (xs ys : List Bool) → length xs ≡ n → length xs + suc (length ys) ≡ count → word_bit word (xs ++ a ∷ ys) ≡ word_bit word (xs ++ b ∷ ys)
+  turned : (n : ℕ) → Indifferent count word n → (a b : Bool) (xs ys : List Bool) → length xs ≡ n
+      → length xs + suc (length ys) ≡ count → word_bit word (xs ++ a ∷ ys) ≡ word_bit word (xs ++ b ∷ ys)
   turned n same true true xs ys e len = refl
   turned n same true false xs ys e len = one_turned n same xs ys e len
   turned n same false true xs ys e len = sym (one_turned n same xs ys e len)
@@ -57,12 +59,14 @@ zero_add : (n : ℕ) → 0 + n ≡ n
 zero_add n = omega arith
 
 -- bits that differ at ignored pins alone give one output
-pub same_output : (part : PartRef) (t : TableCell) (x y : Pin → Bool) → ((p : Pin) → In (table_pins part t) p → (x p ≡ y p) ⊎ Indifferent (length t.pins) t.word p.ref.pin)
+pub same_output : (part : PartRef) (t : TableCell) (x y : Pin → Bool)
+    → ((p : Pin) → In (table_pins part t) p → (x p ≡ y p) ⊎ Indifferent (length t.pins) t.word p.ref.pin)
     → table_output part t x ≡ table_output part t y
 same_output part t x y h = same_from (length t.pins) t.word part [] 0 t.pins x y refl (zero_add (length t.pins)) h
 
 -- the output goes by the bits of as many pins as there are, on whatever wires
-pub same_refs : (x : PinRef → Bool) (part : PartRef) (n : ℕ) (ws vs : List ℕ) → length ws ≡ length vs → map (λ p. x p.ref) (numbered (pin_at part) n ws) ≡ map (λ p. x p.ref) (numbered (pin_at part) n vs)
+pub same_refs : (x : PinRef → Bool) (part : PartRef) (n : ℕ) (ws vs : List ℕ) → length ws ≡ length vs
+    → map (λ p. x p.ref) (numbered (pin_at part) n ws) ≡ map (λ p. x p.ref) (numbered (pin_at part) n vs)
 same_refs x part n [] [] e = refl
 same_refs x part n [] (v ∷ vs) e = absurd (let no : ⊥ = omega arith in no)
 same_refs x part n (w ∷ ws) [] e = absurd (let no : ⊥ = omega arith in no)

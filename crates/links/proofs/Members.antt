@@ -42,7 +42,8 @@ of_flat_map f (z ∷ xs) y h = elim (in_either (f z) (flat_map f xs) y h) [
 ]
 
 -- an element with a property, or none
-pub any_of : {X : Type 0} (P : X → Type 0) → ((x : X) → P x ⊎ (P x → ⊥)) → (xs : List X) → ((x : X) × (In xs x × P x)) ⊎ ((x : X) → In xs x → P x → ⊥)
+pub any_of : {X : Type 0} (P : X → Type 0) → ((x : X) → P x ⊎ (P x → ⊥)) → (xs : List X)
+    → ((x : X) × (In xs x × P x)) ⊎ ((x : X) → In xs x → P x → ⊥)
 any_of P test [] = inr (λ x i h. i)
 any_of P test (y ∷ ys) = elim (test y) [
   | inl h ↦ inl (y, (inl refl, h))

@@ -33,7 +33,8 @@ pub fn one_feed()
 
 /// In a clean routing a wire has just one counting driver, or it has none.
 pub fn one_driver()
-    ensures { (r : Routing) → IsClean r → (w : ℕ) → ((x : ℕ) × (Counting r x w × ((y : ℕ) → Counting r y w → y ≡ x))) ⊎ ((x : ℕ) → Counting r x w → ⊥) }
+    ensures { (r : Routing) → IsClean r → (w : ℕ)
+        → ((x : ℕ) × (Counting r x w × ((y : ℕ) → Counting r y w → y ≡ x))) ⊎ ((x : ℕ) → Counting r x w → ⊥) }
 {}
 
 /// A cell output that feeds a wire is that wire, or it feeds a counting driver of it.
