@@ -1,6 +1,6 @@
 -- How a run may end beside its answer: a fault of a device, each with its cause, and want of memory.
 -- (Our own.)
-use Rattle.std.specs.Prelude.{◌≡◌, ℕ, ◌<◌, List, [], ◌++◌, Result, Ok, Err, ◌⊎◌}
+use Rattle.std.specs.Prelude.{◌≡◌, ◌≢◌, ℕ, ◌<◌, List, [], ◌++◌, Result, Ok, Err, ◌⊎◌}
 use Rattle.words.specs.Appended.{AppendsFront}
 use Rattle.words.specs.Members.{In}
 use Rattle.words.specs.Rose.{Rose}
@@ -33,10 +33,30 @@ Ends reading answer NoRoute old new = (answer.status ≡ NoRoute) × (new ≡ ol
 Ends reading answer Refused old new = (answer.status ≡ Refused) × (new ≡ old ++ answer.text)
 Ends reading answer Usage old new = (answer.status ≡ Usage) × (new ≡ old ++ answer.text)
 
+-- The answer is determined: where a file is read, the files are told.
+abbrev pub IsKnown : Result Command ℕ → Type 0 → Type 0
+IsKnown (Ok command) told = told
+IsKnown (Err k) told = Unit {0}
+
+-- Usage comes just where the words have no reading, unless a device failed or memory ran out.
+abbrev pub UsageOnly : Result Command ℕ → Status → Type 0
+UsageOnly (Ok command) status = status ≢ Usage
+UsageOnly (Err k) Usage = Unit {0}
+UsageOnly (Err k) WriteFault = Unit {0}
+UsageOnly (Err k) Memory = Unit {0}
+UsageOnly (Err k) ReadFault = ⊥
+UsageOnly (Err k) Done = ⊥
+UsageOnly (Err k) Unsafe = ⊥
+UsageOnly (Err k) NoRoute = ⊥
+UsageOnly (Err k) Refused = ⊥
+
 -- the counts of faults of one device before and after
 pub record Count : Type 0 where
   pub before : ℕ
   pub now : ℕ
+
+abbrev pub count : ℕ → ℕ → Count
+count before now = record { before = before; now = now }
 
 abbrev pub HasRisen : Count → Type 0
 HasRisen c = Rose c.before c.now

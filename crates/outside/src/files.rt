@@ -34,7 +34,8 @@ pub trait Files {
     /// name holds anything.
     fn write(&mut self, name: &str, bytes: &[u8]) -> PutAnswer
         ensures told { told self.old → told self.new }
-        ensures others { (other : List ℕ) → other ≢ name.now → file self.new other ≡ file self.old other }
+        ensures others { (other : List ℕ) → other ≢ name.now
+            → file self.new other ≡ file self.old other }
         ensures content { told self.old → Holds result (file self.new name.now) bytes.now }
         ensures read_faults { read_faults self.new ≡ read_faults self.old }
         ensures write_faults { PutCounts result (write_faults self.old) (write_faults self.new) };

@@ -20,11 +20,12 @@ ghost use Rattle.outside.specs.Whole.{WholeCounts, whole_of};
 /// A read that doesn't fail answers `End` exactly where the file is there and has no byte from the offset
 /// on, and `Missing` exactly where there is no such file.
 pub fn read_is_exact()
-    ensures end { (file : Option (List ℕ)) (at room : ℕ) (answer : ReadAnswer) (buffer : List ℕ) → GotFits answer room
-        → Reads file at answer buffer → answer ≢ read.Failed
+    ensures end { (file : Option (List ℕ)) (at room : ℕ) (answer : ReadAnswer) (buffer : List ℕ)
+        → GotFits answer room → Reads file at answer buffer → answer ≢ read.Failed
         → (answer ≡ read.End) ↔ IsSomeAnd file (λ bytes. length bytes ≤ at) }
-    ensures missing { (file : Option (List ℕ)) (at room : ℕ) (answer : ReadAnswer) (buffer : List ℕ) → GotFits answer room
-        → Reads file at answer buffer → answer ≢ read.Failed → (answer ≡ read.Missing) ↔ (file ≡ None) }
+    ensures missing { (file : Option (List ℕ)) (at : ℕ) (answer : ReadAnswer) (buffer : List ℕ)
+        → Reads file at answer buffer → answer ≢ read.Failed
+        → (answer ≡ read.Missing) ↔ (file ≡ None) }
 {}
 
 /// Where no read fails and there is memory, a reading of a whole file answers `Missing` exactly where there
@@ -41,12 +42,15 @@ pub fn counts_never_fall()
     ensures read { (answer : ReadAnswer) (before now : ℕ) → ReadCounts answer before now → before ≤ now }
     ensures put { (answer : PutAnswer) (before now : ℕ) → PutCounts answer before now → before ≤ now }
     ensures take { (answer : TakeAnswer) (before now : ℕ) → TakeCounts answer before now → before ≤ now }
-    ensures whole { (result : Result (Vec ℕ Global) WholeError) (before now : ℕ) → WholeCounts result before now → before ≤ now }
-    ensures all { (result : Result (Unit {0}) SinkError) (before now : ℕ) → SinkCounts result before now → before ≤ now }
+    ensures whole { (result : Result (Vec ℕ Global) WholeError) (before now : ℕ)
+        → WholeCounts result before now → before ≤ now }
+    ensures all { (result : Result (Unit {0}) SinkError) (before now : ℕ)
+        → SinkCounts result before now → before ≤ now }
 {}
 
 /// Where a count of faults is always 0, no reading and no writing answers a fault.
 pub fn no_fault_at_zero()
-    ensures whole { (result : Result (Vec ℕ Global) WholeError) → WholeCounts result 0 0 → result ≢ Err ReadFault }
+    ensures whole { (result : Result (Vec ℕ Global) WholeError)
+        → WholeCounts result 0 0 → result ≢ Err ReadFault }
     ensures all { (result : Result (Unit {0}) SinkError) → SinkCounts result 0 0 → result ≢ Err WriteFault }
 {}

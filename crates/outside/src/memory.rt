@@ -67,7 +67,8 @@ impl Files for MemFiles {
 
         // What it says beside its trait.
         ensures fails { (result ≡ ReadAnswer.Failed) ↔ NextFails self.old.reads }
-        ensures fullest { result ≢ ReadAnswer.Failed → result ≡ fullest_read (file_in self.old.files name.now) at (length buf.old) }
+        ensures fullest { let file = file_in self.old.files name.now in
+            result ≢ ReadAnswer.Failed → result ≡ fullest_read file at (length buf.old) }
         ensures counted { self.new ≡ record self.old { reads = after_call self.old.reads (read_failed result) } }
     {
         if self.reads.next_fails() {
@@ -77,7 +78,8 @@ impl Files for MemFiles {
     }
 
     fn write(&mut self, name: &str, bytes: &[u8]) -> PutAnswer
-        ensures others { (other : List ℕ) → other ≢ name.now → file_in self.new.files other ≡ file_in self.old.files other }
+        ensures others { (other : List ℕ) → other ≢ name.now
+            → file_in self.new.files other ≡ file_in self.old.files other }
         ensures content { Holds result (file_in self.new.files name.now) bytes.now }
         ensures read_faults { self.new.reads.faults ≡ self.old.reads.faults }
         ensures write_faults { PutCounts result self.old.writes.faults self.new.writes.faults }

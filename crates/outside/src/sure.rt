@@ -54,7 +54,8 @@ impl Files for SureFiles {
 
     fn write(&mut self, name: &str, bytes: &[u8]) -> PutAnswer
         ensures sure { result ≢ PutAnswer.Failed }
-        ensures others { (other : List ℕ) → other ≢ name.now → file_in self.new other ≡ file_in self.old other }
+        ensures others { (other : List ℕ) → other ≢ name.now
+            → file_in self.new other ≡ file_in self.old other }
         ensures content { Holds result (file_in self.new name.now) bytes.now }
         ensures kept { result ≢ PutAnswer.Done → self.new ≡ self.old }
     {

@@ -1,7 +1,7 @@
 //! The real files and the standard output: the trusted edge, a few lines over the system's calls. No
 //! clause says what a real file holds or what a terminal takes, so these tell nothing of contents.
 
-ghost use Rattle.std.specs.Prelude.{◌≤◌, [], None, length, IfOk};
+ghost use Rattle.std.specs.Prelude.{◌≡◌, ◌≤◌, [], None, length, IfOk};
 
 use super::{Files, PutAnswer, ReadAnswer, Sink, TakeAnswer};
 use std::io::{self, ErrorKind, Read, Seek, SeekFrom, Write};
@@ -18,7 +18,10 @@ pub struct OsFiles<R: rt::Files> {
 
 impl<R: rt::Files> OsFiles<R> {
     /// The files that a runtime reaches.
-    pub fn new(rt: R) -> OsFiles<R> {
+    pub fn new(rt: R) -> OsFiles<R>
+        ensures read_faults { ⟦<OsFiles<R> as Files>⟧.read_faults result ≡ 0 }
+        ensures write_faults { ⟦<OsFiles<R> as Files>⟧.write_faults result ≡ 0 }
+    {
         OsFiles {
             rt,
             read_faults: 0,
@@ -81,7 +84,9 @@ pub struct OsSink<R: Print + Drop> {
 
 impl<R: Print + Drop> OsSink<R> {
     /// The standard output of a runtime.
-    pub fn new(rt: R) -> OsSink<R> {
+    pub fn new(rt: R) -> OsSink<R>
+        ensures faults { ⟦<OsSink<R> as Sink>⟧.faults result ≡ 0 }
+    {
         OsSink { rt, faults: 0 }
     }
 }
