@@ -1,0 +1,3 @@
+pub mod Coded
+pub mod Places
+pub mod Kept

@@ -1,0 +1,4 @@
+pub mod LentNames
+pub mod Parts
+pub mod Kept
+pub mod Codes

@@ -1,0 +1,75 @@
+//! The wire that a name stands for.
+
+ghost use Rattle.std.specs.Prelude.{◌≡◌};
+ghost use Rattle.fabric.specs.WireNames.{IsWireName};
+ghost use Rattle.fabric.specs.WireOfName.{begins_with_one as begins_with_one_of, without_chip as without_chip_of, wire_at as wire_at_of, wire_of_name};
+ghost use Rattle.wire_names.specs.LentNames.{wire_name};
+ghost use Rattle.wire_names.specs.Parts.{relative_view};
+
+use crate::relative::Relative;
+use fabric_laws::each_name_has_one_wire;
+use rr_ids::{List, Name, Rules};
+
+/// What a name stands for at a tile's place.
+#[derive(Clone, Copy, Debug, PartialEq, Eq)]
+pub enum WireName<'a> {
+    /// A wire of a row and a column, which may lie outside the grid. Its base is its name without a place.
+    Local { row: i32, col: i32, base: &'a [u8] },
+    /// A wire of the whole device.
+    Wide { base: &'a [u8] },
+    /// The name of a wire of another chip, which is no wire here.
+    Ignored,
+}
+
+/// What a name stands for at a tile's place; takes no memory.
+pub fn place<'a>(row: u8, col: u8, name: &'a [u8], rules: &Rules) -> WireName<'a>
+    ensures computed { wire_name result ≡ wire_of_name (row, col) name.now rules.now }
+    ensures stands { IsWireName (row, col) name.now rules.now (wire_name result) }
+{
+    each_name_has_one_wire();
+    if begins_with_one(&rules.other_chips, name) {
+        return WireName::Ignored;
+    }
+    let relative = Relative::read(without_chip(&rules.chip_prefix, name));
+    wire_at(row, col, rules, relative)
+}
+
+// Whether a name begins with one of the prefixes.
+fn begins_with_one(prefixes: &List<Name>, name: &[u8]) -> bool
+    ensures { result ≡ begins_with_one_of prefixes.now name.now }
+{
+    prefixes
+        .as_slice()
+        .iter()
+        .any(|prefix| name.starts_with(prefix.bytes()))
+}
+
+// The name without the chip's prefix, where more stands behind it.
+fn without_chip<'a>(chip: &Option<Name>, name: &'a [u8]) -> &'a [u8]
+    ensures { result.now ≡ without_chip_of chip.now name.now }
+{
+    let Some(prefix) = chip else {
+        return name;
+    };
+    let prefix = prefix.bytes();
+    if name.starts_with(prefix) && prefix.len() < name.len() {
+        let (_, rest) = name.split_at(prefix.len());
+        return rest;
+    }
+    name
+}
+
+// The wire of a base at a place that is moved.
+fn wire_at<'a>(row: u8, col: u8, rules: &Rules, relative: Relative<'a>) -> WireName<'a>
+    ensures { wire_name result ≡ wire_at_of (row, col) rules.now (relative_view relative.entry) }
+{
+    let base = relative.base;
+    if begins_with_one(&rules.wide, base) {
+        return WireName::Wide { base };
+    }
+    WireName::Local {
+        row: i32::from(row) + relative.rows,
+        col: i32::from(col) + relative.columns,
+        base,
+    }
+}
