@@ -1,13 +1,14 @@
 -- The cells of an image, and the circuit that it makes. (Our own.)
 use Rattle.std.specs.Prelude.{◌≡◌, List, filter_map, Result, Ok, Err, Option, Some, None, option_map}
+use Rattle.words.specs.Members.{In}
 use Rattle.patterns.specs.Bits.{Bits}
-use Rattle.records.specs.Profile.{Profile}
-use Rattle.records.specs.Side.{Side}
+use Rattle.records.specs.Profile.{SliceKind, PadKind, Profile}
+use Rattle.records.specs.Side.{Placed, Side}
 use Rattle.fabric.specs.Graph.{Graph}
 use Rattle.fabric.specs.Links.{routing_of}
 use Rattle.circuit.specs.Cells.{SliceCell, PadCell, Cells}
 use Rattle.circuit.specs.Circuits.{Circuit}
-use Rattle.cells.specs.Sites.{slice_site, pad_site}
+use Rattle.cells.specs.Sites.{Site, slice_site, pad_site}
 use Rattle.cells.specs.Resolved.{slice_cell, pad_cell}
 use Rattle.cells.specs.Readings.{slices_of, pads_of}
 use Rattle.cells.specs.Faults.{CellFault, cell_fault}
@@ -18,6 +19,21 @@ slice_cells g profile image side = filter_map (λ p. option_map (slice_cell g pr
 
 abbrev pub pad_cells : Graph → Profile → Side → List PadCell
 pad_cells g profile side = filter_map (λ p. option_map (pad_cell g profile.rules side p) (pad_site g profile p)) (pads_of side)
+
+-- the slice of a placed slice of the side file at its site, and the pad of a placed pad
+pub record IsSliceOf (g : Graph) (profile : Profile) (image : Bits) (side : Side) (c : SliceCell) : Type 0 where
+  pub placed : Placed
+  pub site : Site SliceKind
+  pub listed : In side.slices placed
+  pub stands : slice_site g profile placed ≡ Some site
+  pub cell : slice_cell g profile.rules image placed site ≡ c
+
+pub record IsPadOf (g : Graph) (profile : Profile) (side : Side) (c : PadCell) : Type 0 where
+  pub placed : Placed
+  pub site : Site PadKind
+  pub listed : In side.pads placed
+  pub stands : pad_site g profile placed ≡ Some site
+  pub cell : pad_cell g profile.rules side placed site ≡ c
 
 -- a value, unless there is a fault
 abbrev pub unless : {X E : Type 0} → Option E → X → Result X E

@@ -5,7 +5,7 @@ use Rattle.std.specs.Str.{bytes_eq}
 use Rattle.words.specs.Firsts.{or_else, first_fault}
 use Rattle.patterns.specs.Bits.{Bits}
 use Rattle.records.specs.Profile.{SliceKind, PadKind, Profile}
-use Rattle.records.specs.Side.{Placed, Triple, Side}
+use Rattle.records.specs.Side.{Triple, Side}
 use Rattle.fabric.specs.Graph.{Graph}
 use Rattle.cells.specs.Sites.{Site, slice_site, pad_site, settings_at, unnamed_pads}
 use Rattle.cells.specs.Takes.{taken, takes_out}
@@ -22,23 +22,25 @@ pub data CellFault : Type 0 where
   -- the tile and the kind of a pad without a name that drives out of the fabric
   UnnamedPad : List ℕ → List ℕ → CellFault
 
--- a placed cell has a site
-abbrev pub site_fault : {K : Type 0} → (Placed → Option (Site K)) → Placed → Option CellFault
-site_fault site p = option_map_or (λ s. None) (site p) (Some (UnknownSite p.name))
+-- a placed cell of a name has a site
+abbrev pub site_fault : {K : Type 0} → List ℕ → Option (Site K) → Option CellFault
+site_fault name None = Some (UnknownSite name)
+site_fault name (Some s) = None
 
 -- the site of the slice of a name
 abbrev pub site_of_slice : Graph → Profile → Side → List ℕ → Option (Site SliceKind)
 site_of_slice g profile side name = option_and_then (slice_site g profile) (find (λ p. bytes_eq p.name name) side.slices)
 
--- the slices of two names stand at sites of equal shape
-abbrev pub shaped_alike : Graph → Profile → Side → List ℕ → List ℕ → Bool
-shaped_alike g profile side a b =
-    option_map_or (λ s. option_map_or (λ t. equal_shape (settings_at g s) s.kind (settings_at g t) t.kind) (site_of_slice g profile side b) false) (site_of_slice g profile side a) false
+-- two sites have equal shape
+abbrev pub shaped_alike : Graph → Option (Site SliceKind) → Option (Site SliceKind) → Bool
+shaped_alike g (Some s) (Some t) = equal_shape (settings_at g s) s.kind (settings_at g t) t.kind
+shaped_alike g _ _ = false
 
--- the slices of a triple have equal shape
+-- the slices of a triple stand at sites of equal shape
 abbrev pub shape_fault : Graph → Profile → Side → Triple → Option CellFault
 shape_fault g profile side t =
-    if shaped_alike g profile side t.first t.second && shaped_alike g profile side t.first t.third then None else Some (ShapeDiffers t.first)
+    let first = site_of_slice g profile side t.first in
+    if shaped_alike g first (site_of_slice g profile side t.second) && shaped_alike g first (site_of_slice g profile side t.third) then None else Some (ShapeDiffers t.first)
 
 -- a value is modelled; `?` stands for a value that isn't there
 abbrev pub value_fault : Reading → Option CellFault
@@ -52,8 +54,8 @@ unnamed_fault g image s = if option_map_or takes_out (taken g image s.number s.k
 -- unnamed pads; slices come before named pads, each in byte order of names, and triples come in file order.
 abbrev pub cell_fault : Graph → Profile → Bits → Side → Option CellFault
 cell_fault g profile image side =
-    or_else (first_fault (λ before p. site_fault (slice_site g profile) p) (slices_of side))
-    (or_else (first_fault (λ before p. site_fault (pad_site g profile) p) (pads_of side))
+    or_else (first_fault (λ before p. site_fault p.name (slice_site g profile p)) (slices_of side))
+    (or_else (first_fault (λ before p. site_fault p.name (pad_site g profile p)) (pads_of side))
     (or_else (first_fault (λ before t. shape_fault g profile side t) side.triples)
     (or_else (first_fault (λ before r. value_fault r) (readings g profile image side))
     (first_fault (λ before s. unnamed_fault g image s) (unnamed_pads g profile side)))))

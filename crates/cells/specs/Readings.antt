@@ -46,8 +46,12 @@ abbrev pub choice_reading : Graph → Bits → List ℕ → ℕ → Choice → R
 choice_reading g image cell tile choice =
     record { cell = cell; setting = unwrap_or choice.setting []; value = choice_value g image tile choice; modelled = is_some (taken g image tile choice) }
 
+-- the choices of a register: data, enable, reset, set value and clock
+abbrev pub choices_of : RegisterKind → List Choice
+choices_of r = r.input ∷ r.enable ∷ r.reset ∷ r.set ∷ r.clock ∷ []
+
 abbrev pub register_readings : Graph → Bits → List ℕ → ℕ → RegisterKind → List Reading
-register_readings g image cell tile r = map (choice_reading g image cell tile) (r.input ∷ r.enable ∷ r.reset ∷ r.set ∷ r.clock ∷ [])
+register_readings g image cell tile r = map (choice_reading g image cell tile) (choices_of r)
 
 -- the settings of a slice: those that are required, the words of its tables, and the choices of its registers
 abbrev pub slice_readings : Graph → Bits → Placed → Site SliceKind → List Reading

@@ -1,8 +1,7 @@
 -- Sites: where a cell can stand. A site is a tile of the grid that has a row and a column, with a kind of slice
 -- or pad of the profile for the tile's type. (Our own.)
-use Rattle.std.specs.Prelude.{ℕ, Bool, not, List, [], map, find, filter, flat_map, Option, option_map, option_and_then, slice_get, unwrap_or, ◌&&◌}
+use Rattle.std.specs.Prelude.{ℕ, Bool, not, List, [], find, filter, filter_map, flat_map, Option, option_map, option_and_then, slice_get, unwrap_or, ◌&&◌}
 use Rattle.std.specs.List.{list_any, enumerate_from}
-use Rattle.std.specs.Option.{is_some}
 use Rattle.std.specs.Str.{bytes_eq}
 use Rattle.records.specs.Grid.{Tile}
 use Rattle.records.specs.Profile.{SliceKind, PadKind, Profile}
@@ -25,10 +24,13 @@ slice_kind profile name tile = find (λ k. bytes_eq k.tile tile.kind && bytes_eq
 abbrev pub pad_kind : Profile → List ℕ → Tile → Option PadKind
 pad_kind profile name tile = find (λ k. bytes_eq k.tile tile.kind && bytes_eq k.name name) profile.pads
 
--- the site in the tile at a place of the grid, where the tile has a row and a column, and a kind
+-- the site of a kind in a tile with its place in the grid, where the tile has a row and a column
+abbrev pub site_in : {K : Type 0} → ℕ → Tile → K → Option (Site K)
+site_in number tile kind = option_map (λ place. record { number = number; tile = tile; kind = kind }) tile.place
+
+-- the site of a kind in the tile at a place of the grid
 abbrev pub site_at : {K : Type 0} → Graph → (Tile → Option K) → ℕ → Option (Site K)
-site_at g kind_in number =
-    option_and_then (λ tile. option_and_then (λ place. option_map (λ kind. record { number = number; tile = tile; kind = kind }) (kind_in tile)) tile.place) (slice_get g.grid.tiles number)
+site_at g kind_in number = option_and_then (λ tile. option_and_then (site_in number tile) (kind_in tile)) (slice_get g.grid.tiles number)
 
 -- the site at which a placed slice, or a placed pad, stands; none where the tile or the kind isn't there, or
 -- the tile has no row and column
@@ -49,7 +51,7 @@ is_named side site = list_any (λ p. bytes_eq p.tile site.tile.name && bytes_eq 
 -- the pad sites of the tile at a place of the grid, by the names of their kinds
 abbrev pub tile_pad_sites : Profile → ℕ → Tile → List (Site PadKind)
 tile_pad_sites profile number tile =
-    map (λ kind. record { number = number; tile = tile; kind = kind }) (in_name_order (λ k. k.name) (filter (λ k. is_some tile.place && bytes_eq k.tile tile.kind) profile.pads))
+    filter_map (site_in number tile) (in_name_order (λ k. k.name) (filter (λ k. bytes_eq k.tile tile.kind) profile.pads))
 
 -- the pad sites at which no named pad stands, by the names of their tiles, then of their kinds
 abbrev pub unnamed_pads : Graph → Profile → Side → List (Site PadKind)

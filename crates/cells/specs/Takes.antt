@@ -18,10 +18,14 @@ choice_value g image tile choice = option_and_then (value_at g image tile) choic
 abbrev pub case_with : List Case → List ℕ → Option Case
 case_with cases value = find (λ c. option_map_or (bytes_eq value) c.value false) cases
 
--- A choice takes what its first case with the value of its setting says. A choice without a setting has one case.
+-- The case of a choice that counts is the first with the value of its setting. A choice without a setting has one
+-- case.
+abbrev pub case_of : Graph → Bits → ℕ → Choice → Option Case
+case_of g image tile choice = option_map_or (λ setting. option_and_then (case_with choice.cases) (value_at g image tile setting)) choice.setting (slice_get choice.cases 0)
+
+-- what a choice takes
 abbrev pub taken : Graph → Bits → ℕ → Choice → Option Take
-taken g image tile choice =
-    option_map (λ c. c.take) (option_map_or (λ setting. option_and_then (case_with choice.cases) (value_at g image tile setting)) choice.setting (slice_get choice.cases 0))
+taken g image tile choice = option_map (λ c. c.take) (case_of g image tile choice)
 
 -- The number of the wire that a name of a kind stands for in a tile. (Each such name has one, at each site of the
 -- kind in the device of the graph.)
