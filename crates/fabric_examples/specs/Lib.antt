@@ -1,0 +1,4 @@
+pub mod Muxes
+pub mod ToggleLinks
+pub mod Faulty
+pub mod Feeds

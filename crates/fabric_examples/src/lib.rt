@@ -1,16 +1,93 @@
 //! Worked examples of the fabric's definitions, each the contract of a function with an empty body.
 #![tactic(auto)]
 
+ghost use Rattle.fabric.specs.Agree.{ArcsAgree};
+ghost use Rattle.fabric.specs.Graph.{Graph};
+ghost use Rattle.fabric.specs.Image.{image_of};
+ghost use Rattle.fabric.specs.Links.{links_of, routing_of};
+ghost use Rattle.fabric.specs.MuxBits.{bit_cmp, mux_bits};
+ghost use Rattle.fabric.specs.Settings.{enum_named, enum_value, word_bits, word_named};
+ghost use Rattle.fabric.specs.WireNames.{Ignored, Named};
+ghost use Rattle.fabric.specs.WireOfName.{wire_of_name};
+ghost use Rattle.fabric.specs.Wires.{Local, Wide};
+ghost use Rattle.fabric_examples.specs.Faulty.{contested, stray_bit};
+ghost use Rattle.fabric_examples.specs.Feeds.{FeedText, pin_feeds};
+ghost use Rattle.fabric_examples.specs.Muxes.{at, chosen_sources, longer, must_be_zero, tied};
+ghost use Rattle.fabric_examples.specs.ToggleLinks.{toggle_links};
+ghost use Rattle.fabric_laws.specs.Insertion.{in_order};
 ghost use Rattle.fabric_laws.specs.PlainGraph.{graph_of};
-ghost use Rattle.mini.specs.MiniA.{mini_a};
-ghost use Rattle.std.specs.Prelude.{length, ◌≡◌};
+ghost use Rattle.links.specs.Links.{Counting, Feeds, IsClean};
+ghost use Rattle.mini.specs.MiniA.{mini_a, rules};
+ghost use Rattle.mini.specs.Spoken.{link_texts, wire_called};
+ghost use Rattle.mini.specs.Toggle.{toggle};
+ghost use Rattle.std.specs.Prelude.{codes, length, negsuc, pos, [], ◌∷◌, ◌≡◌};
+ghost use Rattle.words.specs.Members.{In};
 
-/// Probe.
-pub fn probe()
-    ensures { length (graph_of mini_a).wires ≡ 82 }
+/// Names of wires at places.
+pub fn names_of_wires()
+    ensures relative { wire_of_name (0, 3) (codes "N1W2_X") rules ≡ Named (Local (negsuc 0) (pos 1) (codes "X")) }
+    ensures bare { wire_of_name (4, 4) (codes "_X") rules ≡ Named (Local (pos 4) (pos 4) (codes "X")) }
+    ensures too_far { wire_of_name (4, 4) (codes "S256_X") rules ≡ Named (Local (pos 4) (pos 4) (codes "S256_X")) }
+    ensures other_chip { wire_of_name (4, 4) (codes "25K_X") rules ≡ Ignored }
+    ensures wide { wire_of_name (1, 2) (codes "G_CK0") rules ≡ Named (Wide (codes "G_CK0")) }
 {}
 
-/// Probe.
-pub fn probe2()
-    ensures { length (graph_of mini_a).arcs ≡ 137 }
+/// The longer of two patterns that fit is chosen.
+pub fn longer_match_wins()
+    ensures { chosen_sources (at 0 0 ∷ at 0 1 ∷ []) longer ≡ codes "S2" ∷ [] }
+{}
+
+/// Two patterns of one length are both chosen where they fit.
+pub fn tie_leaves_both()
+    ensures both { chosen_sources (at 0 0 ∷ []) tied ≡ codes "S1" ∷ codes "S2" ∷ [] }
+    ensures neither { chosen_sources [] tied ≡ [] }
+{}
+
+/// A bit with `!` must be 0, and counts as a bit.
+pub fn bit_must_be_zero()
+    ensures no_bits { chosen_sources [] must_be_zero ≡ codes "S1" ∷ [] }
+    ensures one_bit { chosen_sources (at 0 0 ∷ []) must_be_zero ≡ codes "S2" ∷ [] }
+    ensures both_bits { chosen_sources (at 0 0 ∷ at 0 1 ∷ []) must_be_zero ≡ codes "S1" ∷ [] }
+{}
+
+/// The graph of MINI-A, in numbers.
+pub fn size_of_mini_a()
+    ensures wires { length (graph_of mini_a).wires ≡ 82 }
+    ensures arcs { length (graph_of mini_a).arcs ≡ 137 }
+    ensures outputs { length (graph_of mini_a).outputs ≡ 15 }
+    ensures bits { length (in_order bit_cmp (mux_bits (graph_of mini_a))) ≡ 178 }
+{}
+
+/// The links of the toggle.
+pub fn links_of_toggle()
+    ensures { let g = graph_of mini_a in link_texts g (links_of g (image_of g toggle)) ≡ toggle_links }
+{}
+
+/// The arcs of the toggle agree.
+pub fn toggle_agrees()
+    ensures { let g = graph_of mini_a in ArcsAgree g (image_of g toggle) toggle }
+{}
+
+/// With a stray bit they don't.
+pub fn stray_bit_differs()
+    ensures { let g = graph_of mini_a in ArcsAgree g (image_of g stray_bit) stray_bit → ⊥ }
+{}
+
+/// The toggle is clean.
+pub fn toggle_is_clean()
+    ensures { let g = graph_of mini_a in IsClean (routing_of g (image_of g toggle)) }
+{}
+
+/// A pin with two counting drivers is contested.
+pub fn two_drivers_are_contested()
+    ensures drivers { let g = graph_of mini_a in
+        let r = routing_of g (image_of g contested) in
+        Counting r (wire_called g (codes "R1C3/H0")) (wire_called g (codes "R1C3/A")) × Counting r (wire_called g (codes "R1C3/H3")) (wire_called g (codes "R1C3/A")) }
+    ensures not_clean { let g = graph_of mini_a in IsClean (routing_of g (image_of g contested)) → ⊥ }
+{}
+
+/// The feeds of the toggle's pins.
+pub fn feeds_of_toggle()
+    ensures { let g = graph_of mini_a in
+        (f : FeedText) → In pin_feeds f → Feeds (routing_of g (image_of g toggle)) (wire_called g f.feed) (wire_called g f.pin) }
 {}

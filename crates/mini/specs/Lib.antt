@@ -1,2 +1,4 @@
 pub mod MiniA
 pub mod Toggle
+pub mod Spoken
+pub mod ToggleCells

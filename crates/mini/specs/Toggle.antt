@@ -36,16 +36,16 @@ toggle_with first second third = record {
   device = codes "MINI-A";
   heads = [];
   tiles =
-    output_text (codes "R0C1:MIO")
-    ∷ output_text (codes "R0C2:MIO")
-    ∷ output_text (codes "R0C3:MIO")
-    ∷ first
-    ∷ second
-    ∷ third
-    ∷ clock_text (codes "R2C1:MCK") (codes "G_CK0")
-    ∷ clock_text (codes "R2C2:MCK") (codes "G_CK1")
-    ∷ clock_text (codes "R2C3:MCK") (codes "G_CK2")
-    ∷ [];
+      output_text (codes "R0C1:MIO")
+      ∷ output_text (codes "R0C2:MIO")
+      ∷ output_text (codes "R0C3:MIO")
+      ∷ first
+      ∷ second
+      ∷ third
+      ∷ clock_text (codes "R2C1:MCK") (codes "G_CK0")
+      ∷ clock_text (codes "R2C2:MCK") (codes "G_CK1")
+      ∷ clock_text (codes "R2C3:MCK") (codes "G_CK2")
+      ∷ [];
 }
 
 -- three pins from three tracks, and a clock
@@ -71,15 +71,15 @@ crossed = toggle_with
     (slice_text (codes "R1C1:MLC") (pin_lines (codes "G_CK0") (line (codes "H0") (codes "E1_H0") ∷ line (codes "H1") (codes "Q") ∷ line (codes "H2") (codes "E1_H2") ∷ line (codes "H4") (codes "Q") ∷ [])))
     (slice_text (codes "R1C2:MLC") (pin_lines (codes "G_CK1") (line (codes "H0") (codes "E1_H0") ∷ line (codes "H1") (codes "W1_H1") ∷ line (codes "H2") (codes "Q") ∷ line (codes "H4") (codes "W1_H4") ∷ [])))
     (slice_text (codes "R1C3:MLC") (
-      line (codes "A") (codes "H3")
-      ∷ line (codes "B") (codes "H4")
-      ∷ line (codes "C") (codes "H2")
-      ∷ line (codes "CK") (codes "G_CK2")
-      ∷ line (codes "H0") (codes "Q")
-      ∷ line (codes "H2") (codes "W1_H2")
-      ∷ line (codes "H3") (codes "Q")
-      ∷ line (codes "H4") (codes "W1_H4")
-      ∷ []))
+    line (codes "A") (codes "H3")
+    ∷ line (codes "B") (codes "H4")
+    ∷ line (codes "C") (codes "H2")
+    ∷ line (codes "CK") (codes "G_CK2")
+    ∷ line (codes "H0") (codes "Q")
+    ∷ line (codes "H2") (codes "W1_H2")
+    ∷ line (codes "H3") (codes "Q")
+    ∷ line (codes "H4") (codes "W1_H4")
+    ∷ []))
 
 abbrev pub placed : List ℕ → List ℕ → List ℕ → Domain → Placed
 placed name tile kind domain = record { name = name; tile = tile; kind = kind; domain = domain }
@@ -95,13 +95,13 @@ abbrev pub toggle_side : Side
 toggle_side = record {
   slices = placed (codes "a0") (codes "R1C1:MLC") (codes "S0") D0 ∷ placed (codes "a1") (codes "R1C2:MLC") (codes "S0") D1 ∷ placed (codes "a2") (codes "R1C3:MLC") (codes "S0") D2 ∷ [];
   pads =
-    placed (codes "k0") (codes "R2C1:MCK") (codes "K0") D0
-    ∷ placed (codes "k1") (codes "R2C2:MCK") (codes "K0") D1
-    ∷ placed (codes "k2") (codes "R2C3:MCK") (codes "K0") D2
-    ∷ placed (codes "o0") (codes "R0C1:MIO") (codes "P0") D0
-    ∷ placed (codes "o1") (codes "R0C2:MIO") (codes "P0") D1
-    ∷ placed (codes "o2") (codes "R0C3:MIO") (codes "P0") D2
-    ∷ [];
+      placed (codes "k0") (codes "R2C1:MCK") (codes "K0") D0
+      ∷ placed (codes "k1") (codes "R2C2:MCK") (codes "K0") D1
+      ∷ placed (codes "k2") (codes "R2C3:MCK") (codes "K0") D2
+      ∷ placed (codes "o0") (codes "R0C1:MIO") (codes "P0") D0
+      ∷ placed (codes "o1") (codes "R0C2:MIO") (codes "P0") D1
+      ∷ placed (codes "o2") (codes "R0C3:MIO") (codes "P0") D2
+      ∷ [];
   triples = triple (codes "a0") (codes "a1") (codes "a2") ∷ [];
   inputs = [];
   outputs = triple (codes "o0") (codes "o1") (codes "o2") ∷ [];

@@ -48,11 +48,17 @@ chosen P test [] = ([], λ y. ((λ h. absurd h), (λ h. h.0)))
 chosen {X} P test (x ∷ xs) = go (test x) (chosen P test xs)
   where
     go : Decided (P x) → ((ys : List X) × ((y : X) → In ys y ↔ (In xs y × P y))) → (ys : List X) × ((y : X) → In ys y ↔ (In (x ∷ xs) y × P y))
-    go (inl p) rest = (x ∷ rest.0, λ y. (
-      (λ h. elim h [ inl e ↦ (inl e, subst P e p) | inr j ↦ (let r = (rest.1 y).0 j in (inr r.0, r.1)) ]),
-      (λ h. elim h.0 [ inl e ↦ inl e | inr j ↦ inr ((rest.1 y).1 (j, h.1)) ]),
-    ))
-    go (inr n) rest = (rest.0, λ y. (
-      (λ h. let r = (rest.1 y).0 h in (inr r.0, r.1)),
-      (λ h. elim h.0 [ inl e ↦ absurd (n (subst P (sym e) h.1)) | inr j ↦ (rest.1 y).1 (j, h.1) ]),
-    ))
+    go (inl p) rest = (
+      x ∷ rest.0,
+      λ y. (
+        (λ h. elim h [ inl e ↦ (inl e, subst P e p) | inr j ↦ (let r = (rest.1 y).0 j in (inr r.0, r.1)) ]),
+        (λ h. elim h.0 [ inl e ↦ inl e | inr j ↦ inr ((rest.1 y).1 (j, h.1)) ]),
+      ),
+    )
+    go (inr n) rest = (
+      rest.0,
+      λ y. (
+        (λ h. let r = (rest.1 y).0 h in (inr r.0, r.1)),
+        (λ h. elim h.0 [ inl e ↦ absurd (n (subst P (sym e) h.1)) | inr j ↦ (rest.1 y).1 (j, h.1) ]),
+      ),
+    )

@@ -3,3 +3,5 @@ pub mod Decided
 pub mod Upstream
 pub mod Decide
 pub mod Masked
+pub mod Plain
+pub mod PlainDomains
