@@ -16,3 +16,5 @@ pub mod Solve
 pub mod Made
 pub mod ChosenRun
 pub mod Quiet
+pub mod Shapes
+pub mod OneDesign

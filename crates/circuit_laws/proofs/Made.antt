@@ -14,7 +14,7 @@ use Rattle.circuit.specs.Runs.{IsCycle}
 use Rattle.circuit.specs.Choices.{TakesFree, HasBit, Agree}
 use Rattle.circuit.specs.Triplicated.{NoTableLoop}
 use Rattle.links.proofs.Feeds.{driver}
-use Rattle.circuit_laws.proofs.Parts.{table_bit}
+use Rattle.circuit_laws.proofs.Parts.{bit_pin_listed, table_bit}
 use Rattle.circuit_laws.proofs.Refs.{part_same, pin_same, part_named, pin_named, pad_named, pad_same}
 use Rattle.circuit_laws.proofs.Sound.{Sound}
 use Rattle.circuit_laws.proofs.Settle.{named_at, undriven, settled}
@@ -61,7 +61,7 @@ module _ (c : Circuit) (ok : Sound c) (free : NoTableLoop c) (f : Fault) (input 
     wires = solved c ok free f input choice held
 
     pin_found : (s : Source) (p : Pin) → In (sources c.cells) s → In (bit_pins s) p → (x : PinNamed p.ref) → bit_by_pin wires p.ref x ≡ pin_bit c ok free f input choice wires p
-    pin_found s p js ip (inl x) = ap (pin_bit c ok free f input choice wires) (pin_same c.cells ok.formed.names x.0 s x.1.1.0 p x.1.0 js x.1.1.1.0 ip x.1.1.1.1)
+    pin_found s p js ip (inl x) = ap (pin_bit c ok free f input choice wires) (pin_same c.cells ok.formed.names x.1.1.0 p (bit_pin_listed c.cells x.0 x.1.1.0 x.1.0 x.1.1.1.0) (bit_pin_listed c.cells s p js ip) x.1.1.1.1)
     pin_found s p js ip (inr n) = absurd (n s p js ip refl)
 
     made_pin : (s : Source) (p : Pin) → In (sources c.cells) s → In (bit_pins s) p → bit_of (made held) p ≡ pin_bit c ok free f input choice wires p

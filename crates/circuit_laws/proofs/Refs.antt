@@ -1,14 +1,15 @@
 -- A part is named by its cell and number, a pin by its part and number, and an output pad by its name: no two have one
 -- name.
-use Rattle.std.proofs.Common.{◌≡◌, ℕ, zero, suc, ◌≤◌, List, [], ◌∷◌, ◌++◌, ◌⊎◌, inl, inr, refl, sym, ap, subst, ◌∙◌, arith}
+use Rattle.std.proofs.Common.{◌≡◌, ℕ, zero, suc, ◌≤◌, true, List, [], ◌∷◌, ◌++◌, map, ◌⊎◌, inl, inr, refl, sym, ap, subst, ◌∙◌, arith}
 use Rattle.words.specs.Members.{In}
-use Rattle.circuit.specs.Cells.{Input, InputWire, InputNotWire, InputZero, InputOne, RegisterCell, SliceCell, Role, InputPad, OutputPad, ClockPad, PadCell, Cells}
-use Rattle.circuit.specs.Parts.{PartKind, Table, Register, Pad, PartRef, Kind, OfTable, OfRegister, OfInput, OfClock, Source, numbered, table_source, register_source, slice_sources, pad_source_by, sources, output_pads}
-use Rattle.circuit.specs.Pins.{PinRef, Pin, pin_at, input_pin, data_pins, bit_pins_of, bit_pins}
+use Rattle.circuit.specs.Cells.{TableCell, Input, InputWire, InputNotWire, InputZero, InputOne, RegisterCell, SliceCell, Role, InputPad, OutputPad, ClockPad, PadCell, Cells}
+use Rattle.circuit.specs.Parts.{PartKind, Table, Register, Pad, PartRef, Kind, OfTable, OfRegister, OfInput, OfClock, Source, numbered, table_source, register_source, slice_sources, pad_part, pad_source_by, sources, is_output, output_pads}
+use Rattle.std.specs.List.{flat_map}
+use Rattle.circuit.specs.Pins.{PinRef, Pin, pin_at, input_pin, table_pins, data_pins, bit_pins_of, clock_pins_of, bit_pins, source_pins, pad_pin, pins}
 use Rattle.circuit.specs.WellFormed.{NamesApart}
-use Rattle.links.proofs.Members.{in_either, any_of, same_number}
+use Rattle.links.proofs.Members.{in_either, of_map, of_flat_map, any_of, same_number}
 use Rattle.circuit_laws.proofs.Same.{Same, same_name, same_part, part_path}
-use Rattle.circuit_laws.proofs.Parts.{of_numbered, of_slice, of_pad_by, of_sources, of_output_pads}
+use Rattle.circuit_laws.proofs.Parts.{of_numbered, of_slice, of_pad_by, of_sources, of_filter, of_output_pads}
 
 -- elements of a numbered list with one number are one
 numbered_apart : {X Y : Type 0} (make : ℕ → X → Y) (key : Y → ℕ) → ((m : ℕ) (x : X) → key (make m x) ≡ m) → (n : ℕ) (xs : List X) (y z : Y)
@@ -78,17 +79,21 @@ part_same cells names x y i j e = elim (of_sources cells x i) [
   ]
 ]
 
--- a register's input at a pin but its clock
+-- what a register takes at a pin
 abbrev input_at : RegisterCell → ℕ → Input
 input_at r zero = r.input
 input_at r (suc zero) = r.enable
-input_at r (suc (suc n)) = r.reset
+input_at r (suc (suc zero)) = r.reset
+input_at r (suc (suc (suc n))) = r.clock
 
 data_pin : (part : PartRef) (r : RegisterCell) (p : Pin) → In (data_pins part r) p → (n : ℕ) × In (input_pin part n (input_at r n)) p
 data_pin part r p i = elim (in_either (input_pin part 0 r.input ++ input_pin part 1 r.enable) (input_pin part 2 r.reset) p i) [
   | inr k ↦ (2, k)
   | inl j ↦ elim (in_either (input_pin part 0 r.input) (input_pin part 1 r.enable) p j) [ inl k ↦ (0, k) | inr k ↦ (1, k) ]
 ]
+
+register_pin : (part : PartRef) (r : RegisterCell) (p : Pin) → In (data_pins part r ++ input_pin part 3 r.clock) p → (n : ℕ) × In (input_pin part n (input_at r n)) p
+register_pin part r p i = elim (in_either (data_pins part r) (input_pin part 3 r.clock) p i) [ inl j ↦ data_pin part r p j | inr k ↦ (3, k) ]
 
 -- what is known of the pin where a register takes a wire
 record OfInputPin (part : PartRef) (n : ℕ) (p : Pin) : Type 0 where
@@ -106,29 +111,68 @@ input_pin_apart part n (InputNotWire w) p q i j = elim i [ inl a ↦ elim j [ in
 input_pin_apart part n InputZero p q i j = absurd i
 input_pin_apart part n InputOne p q i j = absurd i
 
+-- all pins of a part of a kind
+abbrev pins_of : PartRef → Kind → List Pin
+pins_of part k = bit_pins_of part k ++ clock_pins_of part k
+
+table_pin : (part : PartRef) (t : TableCell) (p : Pin) → In (pins_of part (OfTable t)) p → In (table_pins part t) p
+table_pin part t p i = elim (in_either (table_pins part t) [] p i) [ inl j ↦ j | inr k ↦ absurd k ]
+
 -- a pin is of the part that it is listed at
-pin_part : (part : PartRef) (k : Kind) (p : Pin) → In (bit_pins_of part k) p → p.ref.part ≡ part
-pin_part part (OfTable t) p i = (let g = of_numbered (pin_at part) 0 t.pins p i in ap (λ z. z.ref.part) (sym g.1.1.1.0))
-pin_part part (OfRegister r) p i = (let g = data_pin part r p i in ap (λ z. z.part) (of_input_pin part g.0 (input_at r g.0) p g.1).ref)
+pin_part : (part : PartRef) (k : Kind) (p : Pin) → In (pins_of part k) p → p.ref.part ≡ part
+pin_part part (OfTable t) p i = (let g = of_numbered (pin_at part) 0 t.pins p (table_pin part t p i) in ap (λ z. z.ref.part) (sym g.1.1.1.0))
+pin_part part (OfRegister r) p i = (let g = register_pin part r p i in ap (λ z. z.part) (of_input_pin part g.0 (input_at r g.0) p g.1).ref)
 pin_part part OfInput p i = absurd i
 pin_part part OfClock p i = absurd i
 
-pins_apart : (part : PartRef) (k : Kind) (p q : Pin) → In (bit_pins_of part k) p → In (bit_pins_of part k) q → p.ref ≡ q.ref → p ≡ q
-pins_apart part (OfTable t) p q i j e = numbered_apart (pin_at part) (λ z. z.ref.pin) (λ m w. refl) 0 t.pins p q i j (ap (λ z. z.pin) e)
+pins_apart : (part : PartRef) (k : Kind) (p q : Pin) → In (pins_of part k) p → In (pins_of part k) q → p.ref ≡ q.ref → p ≡ q
+pins_apart part (OfTable t) p q i j e = numbered_apart (pin_at part) (λ z. z.ref.pin) (λ m w. refl) 0 t.pins p q (table_pin part t p i) (table_pin part t q j) (ap (λ z. z.pin) e)
 pins_apart part (OfRegister r) p q i j e =
-    let g = data_pin part r p i in
-    let h = data_pin part r q j in
+    let g = register_pin part r p i in
+    let h = register_pin part r q j in
     let numbers : h.0 ≡ g.0 = sym (ap (λ z. z.pin) (of_input_pin part h.0 (input_at r h.0) q h.1).ref) ∙ (ap (λ z. z.pin) (sym e) ∙ ap (λ z. z.pin) (of_input_pin part g.0 (input_at r g.0) p g.1).ref) in
     input_pin_apart part g.0 (input_at r g.0) p q g.1 (subst (λ n. In (input_pin part n (input_at r n)) q) numbers h.1)
 pins_apart part OfInput p q i j e = absurd i
 pins_apart part OfClock p q i j e = absurd i
 
+-- a pin is of a part with an output, or of an output pad
+of_pins : (cells : Cells) (p : Pin) → In (pins cells) p
+    → ((s : Source) × (In (sources cells) s × In (source_pins s) p)) ⊎ ((d : PadCell) × (In (output_pads cells) d × (pad_pin d ≡ p)))
+of_pins cells p i = elim (in_either (flat_map source_pins (sources cells)) (map pad_pin (output_pads cells)) p i) [
+  | inl j ↦ inl (of_flat_map source_pins (sources cells) p j)
+  | inr j ↦ inr (of_map pad_pin (output_pads cells) p j)
+]
+
+-- an output pad is no part with an output
+pad_no_source : (cells : Cells) → NamesApart cells → (s : Source) (d : PadCell) → In (sources cells) s → In (output_pads cells) d → s.part ≡ pad_part d → ⊥
+pad_no_source cells names s d js jd e = elim (of_sources cells s js) [
+  | inl g ↦ names.kinds g.0 d g.1.0 (of_output_pads cells d jd) (sym (of_slice g.0 s g.1.1).cell ∙ ap (λ z. z.cell) e)
+  | inr g ↦ (let same : g.0 ≡ d = names.pads g.0 d g.1.0 (of_output_pads cells d jd) (ap (λ z. z.cell) (sym (of_pad_by g.0 g.0.role s g.1.1).part ∙ e)) in
+      let is_output_pad : d.role ≡ OutputPad = output_role d.role (of_filter (λ q. is_output q.role) cells.pads d jd).1 in
+      let there : In (pad_source_by d d.role) s = subst (λ z. In (pad_source_by z z.role) s) same g.1.1 in
+      subst (λ r. In (pad_source_by d r) s) is_output_pad there)
+]
+  where
+    output_role : (r : Role) → is_output r ≡ true → r ≡ OutputPad
+    output_role OutputPad h = refl
+    output_role InputPad h = absurd (let no : ⊥ = cc in no)
+    output_role ClockPad h = absurd (let no : ⊥ = cc in no)
+
 -- no two pins have one name
-pub pin_same : (cells : Cells) → NamesApart cells → (s u : Source) (p q : Pin) → In (sources cells) s → In (sources cells) u → In (bit_pins s) p → In (bit_pins u) q → p.ref ≡ q.ref → p ≡ q
-pin_same cells names s u p q js ju i j e =
-    let parts : s.part ≡ u.part = sym (pin_part s.part s.kind p i) ∙ (ap (λ z. z.part) e ∙ pin_part u.part u.kind q j) in
-    let same : u ≡ s = sym (part_same cells names s u js ju parts) in
-    pins_apart s.part s.kind p q i (subst (λ z. In (bit_pins z) q) same j) e
+pub pin_same : (cells : Cells) → NamesApart cells → (p q : Pin) → In (pins cells) p → In (pins cells) q → p.ref ≡ q.ref → p ≡ q
+pin_same cells names p q i j e = elim (of_pins cells p i) [
+  | inl x ↦ elim (of_pins cells q j) [
+    | inl y ↦ (let parts : x.0.part ≡ y.0.part = sym (pin_part x.0.part x.0.kind p x.1.1) ∙ (ap (λ z. z.part) e ∙ pin_part y.0.part y.0.kind q y.1.1) in
+        let same : y.0 ≡ x.0 = sym (part_same cells names x.0 y.0 x.1.0 y.1.0 parts) in
+        pins_apart x.0.part x.0.kind p q x.1.1 (subst (λ z. In (source_pins z) q) same y.1.1) e)
+    | inr y ↦ absurd (pad_no_source cells names x.0 y.0 x.1.0 y.1.0 (sym (pin_part x.0.part x.0.kind p x.1.1) ∙ (ap (λ z. z.part) e ∙ ap (λ z. z.ref.part) (sym y.1.1))))
+  ]
+  | inr x ↦ elim (of_pins cells q j) [
+    | inl y ↦ absurd (pad_no_source cells names y.0 x.0 y.1.0 x.1.0 (sym (pin_part y.0.part y.0.kind q y.1.1) ∙ (ap (λ z. z.part) (sym e) ∙ ap (λ z. z.ref.part) (sym x.1.1))))
+    | inr y ↦ (let same : x.0 ≡ y.0 = names.pads x.0 y.0 (of_output_pads cells x.0 x.1.0) (of_output_pads cells y.0 y.1.0) (ap (λ z. z.ref.part.cell) x.1.1 ∙ (ap (λ z. z.part.cell) e ∙ ap (λ z. z.ref.part.cell) (sym y.1.1))) in
+        sym x.1.1 ∙ (ap pad_pin same ∙ y.1.1))
+  ]
+]
 
 same_ref : (x y : PartRef) → Same x y
 same_ref x y = elim (same_name x.cell y.cell) [

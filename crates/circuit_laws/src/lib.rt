@@ -3,7 +3,10 @@
 
 ghost use Rattle.circuit.specs.Choices.{Agree, Follows};
 ghost use Rattle.circuit.specs.Circuits.{Circuit};
+ghost use Rattle.circuit.specs.Cells.{PadCell};
+ghost use Rattle.circuit.specs.Designs.{SameDesign};
 ghost use Rattle.circuit.specs.Faults.{no_fault, Fault, WithinOneDomain};
+ghost use Rattle.circuit.specs.Parts.{output_pads};
 ghost use Rattle.circuit.specs.Right.{RightOutside, TwoAreRight};
 ghost use Rattle.circuit.specs.Runs.{IsRun};
 ghost use Rattle.circuit.specs.Triples.{IsEntry, PartTriple};
@@ -46,4 +49,12 @@ pub fn one_run()
 pub fn no_flips()
     ensures { (c : Circuit) (f : Fault) → ((a : ℕ) → In f.disturbed a → ⊥) → ((name : List ℕ) → In f.touched name → ⊥)
         → (start : PartTriple → Bool) (input : ℕ → Triple → Bool) (n : ℕ) (run : ℕ → World) → IsRun c f start input n run ↔ IsRun c no_fault start input n run }
+{}
+
+/// Two circuits of one design show in each cycle the same at each output pad, from every common start, on every
+/// input, for every number of cycles.
+pub fn equal_outputs()
+    ensures { (c e : Circuit) → IsClean c.routing → IsClean e.routing → IsWellFormed c → IsWellFormed e → IsTriplicated c → IsTriplicated e → SameDesign c e
+        → (start : PartTriple → Bool) (input : ℕ → Triple → Bool) (n : ℕ) (v w : ℕ → World) → IsRun c no_fault start input n v → IsRun e no_fault start input n w
+        → (t : ℕ) → t < n → (p : PadCell) → In (output_pads c.cells) p → (v t).shown p.name ≡ (w t).shown p.name }
 {}
