@@ -18,3 +18,5 @@ pub mod ChosenRun
 pub mod Quiet
 pub mod Shapes
 pub mod OneDesign
+pub mod Domains
+pub mod Keeps

@@ -12,7 +12,7 @@ use Rattle.circuit.specs.WellFormed.{IsPad}
 use Rattle.circuit.specs.Worlds.{World}
 use Rattle.circuit.specs.Faults.{Fault, no_fault, FaultHas, WithinOneDomain}
 use Rattle.circuit.specs.Runs.{IsRun}
-use Rattle.circuit.specs.Right.{IsRight, RightOutside, TwoOfThree, TwoAreRight}
+use Rattle.circuit.specs.Right.{IsRight, KeepsOutside, RightOutside, TwoOfThree, TwoAreRight}
 use Rattle.circuit.specs.Triplicated.{IsTriplicated}
 use Rattle.links.proofs.Members.{any_of, in_left, in_right, in_either, of_map}
 use Rattle.circuit_laws.proofs.Same.{same_name}
@@ -85,17 +85,17 @@ module _ (c : Circuit) (ok : Sound c) (tri : IsTriplicated c) (o : Triple) (jo :
   third_pad : (p : PadCell) × (In (output_pads c.cells) p × ((p.name ≡ o.third) × (p.domain ≡ D2)))
   third_pad = pad_of c ok o.third D2 (tri.entries.third o listed) (ok.formed.triples.outputs o o.third jo (inr (inr (inl refl))))
 
-  module _ (f : Fault) (start : PartTriple → Bool) (input : ℕ → Triple → Bool) (n : ℕ) (run : ℕ → World) (is : IsRun c f start input n run) (t : ℕ) (lt : t < n) where
-    right_at : (d e : Domain) (name : List ℕ) → RightOutside c f d → (p : PadCell) × (In (output_pads c.cells) p × ((p.name ≡ name) × (p.domain ≡ e))) → (e ≡ d → ⊥) → IsRight c start input t (run t) name
-    right_at d e name right p away = subst (IsRight c start input t (run t)) p.1.1.0 (right start input n run is t lt p.0 p.1.0 (λ h. away (sym p.1.1.1 ∙ h)))
+  module _ (f : Fault) (start : PartTriple → Bool) (input : ℕ → Triple → Bool) (n : ℕ) (run : ℕ → World) (is : IsRun c f start input n run) (t : ℕ) (lt : t < n) (by : Circuit) where
+    right_at : (d e : Domain) (name : List ℕ) → KeepsOutside by c f d → (p : PadCell) × (In (output_pads c.cells) p × ((p.name ≡ name) × (p.domain ≡ e))) → (e ≡ d → ⊥) → IsRight by start input t (run t) name
+    right_at d e name right p away = subst (IsRight by start input t (run t)) p.1.1.0 (right start input n run is t lt p.0 p.1.0 (λ h. away (sym p.1.1.1 ∙ h)))
 
-    pub two_right : (d : Domain) → RightOutside c f d → TwoOfThree (IsRight c start input t (run t) o.first) (IsRight c start input t (run t) o.second) (IsRight c start input t (run t) o.third)
+    pub two_right : (d : Domain) → KeepsOutside by c f d → TwoOfThree (IsRight by start input t (run t) o.first) (IsRight by start input t (run t) o.second) (IsRight by start input t (run t) o.third)
     two_right D0 right = inr (inr (right_at D0 D1 o.second right second_pad (λ e. (let no : ⊥ = cc in no)), right_at D0 D2 o.third right third_pad (λ e. (let no : ⊥ = cc in no))))
     two_right D1 right = inr (inl (right_at D1 D0 o.first right first_pad (λ e. (let no : ⊥ = cc in no)), right_at D1 D2 o.third right third_pad (λ e. (let no : ⊥ = cc in no))))
     two_right D2 right = inl (right_at D2 D0 o.first right first_pad (λ e. (let no : ⊥ = cc in no)), right_at D2 D1 o.second right second_pad (λ e. (let no : ⊥ = cc in no)))
 
 pub two_of_three : (c : Circuit) → Sound c → IsTriplicated c → (f : Fault) → WithinOneDomain c f → TwoAreRight c f
-two_of_three c ok tri f within = λ start input n run is t lt o jo. (let g = masked c ok tri f within in two_right c ok tri o jo f start input n run is t lt g.0 g.1)
+two_of_three c ok tri f within = λ start input n run is t lt o jo. (let g = masked c ok tri f within in two_right c ok tri o jo f start input n run is t lt c g.0 g.1)
 
 -- undisturbed, the pads of an output triple show the same
 module _ (c : Circuit) (ok : Sound c) (tri : IsTriplicated c) (start : PartTriple → Bool) (input : ℕ → Triple → Bool) (n : ℕ) (run : ℕ → World) (is : IsRun c no_fault start input n run) (t : ℕ) (lt : t < n) where

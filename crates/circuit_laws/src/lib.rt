@@ -5,11 +5,12 @@ ghost use Rattle.circuit.specs.Choices.{Agree, Follows};
 ghost use Rattle.circuit.specs.Circuits.{Circuit};
 ghost use Rattle.circuit.specs.Cells.{PadCell};
 ghost use Rattle.circuit.specs.Designs.{SameDesign};
+ghost use Rattle.circuit.specs.Domains.{HasDomain};
 ghost use Rattle.circuit.specs.Faults.{no_fault, Fault, WithinOneDomain};
 ghost use Rattle.circuit.specs.Parts.{output_pads};
-ghost use Rattle.circuit.specs.Right.{RightOutside, TwoAreRight};
+ghost use Rattle.circuit.specs.Right.{KeepsOutside, KeepsTwo, RightOutside, TwoAreRight};
 ghost use Rattle.circuit.specs.Runs.{IsRun};
-ghost use Rattle.circuit.specs.Triples.{IsEntry, PartTriple};
+ghost use Rattle.circuit.specs.Triples.{IsEntry, LiesIn, PartTriple};
 ghost use Rattle.circuit.specs.Triplicated.{IsTriplicated, NoTableLoop};
 ghost use Rattle.circuit.specs.WellFormed.{IsWellFormed};
 ghost use Rattle.circuit.specs.Worlds.{World};
@@ -17,6 +18,12 @@ ghost use Rattle.links.specs.Links.{IsClean};
 ghost use Rattle.records.specs.Side.{Domain, Triple};
 ghost use Rattle.std.specs.Prelude.{Bool, List, ℕ, ◌<◌, ◌↔◌, ◌≡◌};
 ghost use Rattle.words.specs.Members.{In};
+
+/// A wire has one domain at most, and so has a named cell.
+pub fn one_domain()
+    ensures of_wires { (c : Circuit) → IsWellFormed c → (w : ℕ) (d e : Domain) → HasDomain c w d → HasDomain c w e → d ≡ e }
+    ensures of_cells { (c : Circuit) → IsWellFormed c → (name : List ℕ) (d e : Domain) → LiesIn c.cells name d → LiesIn c.cells name e → d ≡ e }
+{}
 
 /// Masking: where the domains of a fault are at most one, there is one domain such that in every faulty run
 /// and every cycle each output pad outside it is right.
@@ -57,4 +64,14 @@ pub fn equal_outputs()
     ensures { (c e : Circuit) → IsClean c.routing → IsClean e.routing → IsWellFormed c → IsWellFormed e → IsTriplicated c → IsTriplicated e → SameDesign c e
         → (start : PartTriple → Bool) (input : ℕ → Triple → Bool) (n : ℕ) (v w : ℕ → World) → IsRun c no_fault start input n v → IsRun e no_fault start input n w
         → (t : ℕ) → t < n → (p : PadCell) → In (output_pads c.cells) p → (v t).shown p.name ≡ (w t).shown p.name }
+{}
+
+/// A circuit under a fault whose domains are at most one keeps the outputs of each circuit of its design: outside
+/// one domain each output pad shows in every cycle what the other circuit shows undisturbed, and so do at least
+/// two of the three pads of each output triple.
+pub fn hardened()
+    ensures outside { (c e : Circuit) → IsClean c.routing → IsClean e.routing → IsWellFormed c → IsWellFormed e → IsTriplicated c → IsTriplicated e → SameDesign c e
+        → (f : Fault) → WithinOneDomain e f → (d : Domain) × KeepsOutside c e f d }
+    ensures two { (c e : Circuit) → IsClean c.routing → IsClean e.routing → IsWellFormed c → IsWellFormed e → IsTriplicated c → IsTriplicated e → SameDesign c e
+        → (f : Fault) → WithinOneDomain e f → KeepsTwo c e f }
 {}

@@ -9,6 +9,7 @@ pub mod TileWires
 pub mod Graph
 pub mod GraphOf
 pub mod Links
+pub mod Values
 pub mod MuxBits
 pub mod Image
 pub mod Agree

@@ -1,4 +1,5 @@
 pub mod Muxes
+pub mod Options
 pub mod ToggleLinks
 pub mod Faulty
 pub mod Feeds

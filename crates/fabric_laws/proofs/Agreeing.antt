@@ -64,14 +64,14 @@ module _ (device : Device) (g : Graph) (is : IsGraph device g) where
   pub agreeing : (image : Bits) (config : Config) → (arcs_agree g image config ≡ true) ↔ ArcsAgree g image config
   agreeing image config = (
     (λ h. let parts = and_parts (list_all (λ a. not (is_chosen g image a && has_plain_bit a.arc.bits) || has_line g config a) g.arcs) (list_all (λ a. not (has_line g config a) || is_chosen g image a) g.arcs) h in
-    record {
-      chosen_has_line = λ a i c p. line_from config a i (imp_from (is_chosen g image a && has_plain_bit a.arc.bits) (has_line g config a)
-          (all_from (λ x. not (is_chosen g image x && has_plain_bit x.arc.bits) || has_line g config x) g.arcs parts.0 a i) (and_from (is_chosen g image a) (has_plain_bit a.arc.bits) c p));
-      line_is_chosen = λ a l. imp_from (has_line g config a) (is_chosen g image a)
-          (all_from (λ x. not (has_line g config x) || is_chosen g image x) g.arcs parts.1 a (line_listed g config a l)) (line_to config a l);
-    }),
+        record {
+          chosen_has_line = λ a i c p. line_from config a i (imp_from (is_chosen g image a && has_plain_bit a.arc.bits) (has_line g config a)
+              (all_from (λ x. not (is_chosen g image x && has_plain_bit x.arc.bits) || has_line g config x) g.arcs parts.0 a i) (and_from (is_chosen g image a) (has_plain_bit a.arc.bits) c p));
+          line_is_chosen = λ a l. imp_from (has_line g config a) (is_chosen g image a)
+              (all_from (λ x. not (has_line g config x) || is_chosen g image x) g.arcs parts.1 a (line_listed g config a l)) (line_to config a l);
+        }),
     (λ r. and_from (list_all (λ a. not (is_chosen g image a && has_plain_bit a.arc.bits) || has_line g config a) g.arcs) (list_all (λ a. not (has_line g config a) || is_chosen g image a) g.arcs)
-      (all_to (λ x. not (is_chosen g image x && has_plain_bit x.arc.bits) || has_line g config x) g.arcs (λ a i. imp_to (is_chosen g image a && has_plain_bit a.arc.bits) (has_line g config a)
+        (all_to (λ x. not (is_chosen g image x && has_plain_bit x.arc.bits) || has_line g config x) g.arcs (λ a i. imp_to (is_chosen g image a && has_plain_bit a.arc.bits) (has_line g config a)
         (λ e. let both = and_parts (is_chosen g image a) (has_plain_bit a.arc.bits) e in line_to config a (r.chosen_has_line a i both.0 both.1))))
-      (all_to (λ x. not (has_line g config x) || is_chosen g image x) g.arcs (λ a i. imp_to (has_line g config a) (is_chosen g image a) (λ e. r.line_is_chosen a (line_from config a i e))))),
+        (all_to (λ x. not (has_line g config x) || is_chosen g image x) g.arcs (λ a i. imp_to (has_line g config a) (is_chosen g image a) (λ e. r.line_is_chosen a (line_from config a i e))))),
   )

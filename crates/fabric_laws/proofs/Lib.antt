@@ -11,3 +11,4 @@ pub mod Numbered
 pub mod Graphs
 pub mod Standing
 pub mod Agreeing
+pub mod Writes

@@ -6,6 +6,7 @@ ghost use Rattle.fabric.specs.Chosen.{best_fits};
 ghost use Rattle.fabric.specs.Device.{Device};
 ghost use Rattle.fabric.specs.Graph.{Graph, GraphArc, GraphMux};
 ghost use Rattle.fabric.specs.GraphOf.{IsGraph};
+ghost use Rattle.fabric.specs.Image.{image_of, writes_of};
 ghost use Rattle.fabric.specs.Links.{is_chosen, link_of, links_of};
 ghost use Rattle.fabric.specs.MuxBits.{bits_named, is_mux_bit};
 ghost use Rattle.fabric.specs.WireNames.{IsWireName, WireName};
@@ -13,13 +14,14 @@ ghost use Rattle.fabric.specs.WireOfName.{wire_of_name};
 ghost use Rattle.fabric_laws.specs.PlainAgree.{arcs_agree};
 ghost use Rattle.fabric_laws.specs.PlainGraph.{graph_of};
 ghost use Rattle.fabric_laws.specs.Stands.{ArcStands, HasArc, MuxStands, NamesArc};
+ghost use Rattle.fabric_laws.specs.Written.{IsUnwritten, LastWritten, bit_writes};
 ghost use Rattle.links.specs.Links.{Link};
 ghost use Rattle.patterns.specs.Bits.{Bits, DeviceBit, PatternBit};
 ghost use Rattle.patterns.specs.Fits.{fits};
 ghost use Rattle.records.specs.Config.{Config};
 ghost use Rattle.records.specs.Database.{Arc, Mux};
 ghost use Rattle.records.specs.Profile.{Rules};
-ghost use Rattle.std.specs.Prelude.{List, length, true, ◌≡◌, ◌↔◌, ◌≤◌, ◌⊎◌, ℕ};
+ghost use Rattle.std.specs.Prelude.{Bool, List, false, length, true, ◌≡◌, ◌↔◌, ◌≤◌, ◌⊎◌, ℕ};
 ghost use Rattle.words.specs.Members.{In};
 
 /// Each name stands for exactly one thing at each place: what `wire_of_name` computes.
@@ -84,8 +86,16 @@ pub fn named_arcs_are_there()
 
 /// Whether the arcs agree can be tested.
 pub fn agreement_is_tested()
-    ensures {
-        (device : Device) (g : Graph) → IsGraph device g
-        → (image : Bits) (config : Config) → (arcs_agree g image config ≡ true) ↔ ArcsAgree g image config
-    }
+    ensures { (device : Device) (g : Graph) → IsGraph device g
+        → (image : Bits) (config : Config) → (arcs_agree g image config ≡ true) ↔ ArcsAgree g image config }
+{}
+
+/// A bit of an image is as the last write that names it leaves it.
+pub fn last_write_decides()
+    ensures { (g : Graph) (config : Config) (b : DeviceBit) (value : Bool) → LastWritten (bit_writes (writes_of g config)) b value → image_of g config b ≡ value }
+{}
+
+/// A bit that no write names is 0.
+pub fn unwritten_bit_is_zero()
+    ensures { (g : Graph) (config : Config) (b : DeviceBit) → IsUnwritten (bit_writes (writes_of g config)) b → image_of g config b ≡ false }
 {}

@@ -88,7 +88,6 @@ fn push_sources(text: &mut Vec<u8>, bits: &[DeviceBit], arcs: &[Arc]) -> Result<
 }
 
 // Adds the line of a mux: its sink and its chosen sources.
-#[tactic(auto, using(crate::proofs::Chosen::chosen_by_longest))]
 fn push_mux(text: &mut Vec<u8>, bits: &[DeviceBit], mux: &Mux) -> Result<(), AllocError>
     ensures { IfOk result (λ _. text.new.items ≡ text.old.items ++ driver_line bits.now mux.now) }
 {

@@ -25,20 +25,20 @@ slice_at g name domain column = record {
   name = name;
   domain = domain;
   tables =
-    record {
-      word = 0x1717;
-      pins = wire_at g 1 column (codes "A") ∷ wire_at g 1 column (codes "B") ∷ wire_at g 1 column (codes "C") ∷ wire_at g 1 column (codes "D") ∷ [];
-      out = wire_at g 1 column (codes "F");
-    } ∷ [];
+      record {
+        word = 0x1717;
+        pins = wire_at g 1 column (codes "A") ∷ wire_at g 1 column (codes "B") ∷ wire_at g 1 column (codes "C") ∷ wire_at g 1 column (codes "D") ∷ [];
+        out = wire_at g 1 column (codes "F");
+      } ∷ [];
   registers =
-    record {
-      input = InputWire (wire_at g 1 column (codes "F"));
-      enable = InputOne;
-      reset = InputZero;
-      set = false;
-      clock = InputWire (wire_at g 1 column (codes "CK"));
-      out = wire_at g 1 column (codes "Q");
-    } ∷ [];
+      record {
+        input = InputWire (wire_at g 1 column (codes "F"));
+        enable = InputOne;
+        reset = InputZero;
+        set = false;
+        clock = InputWire (wire_at g 1 column (codes "CK"));
+        out = wire_at g 1 column (codes "Q");
+      } ∷ [];
   bits = tile_bits 1 column 2 (6 ∷ []) ++ tile_bits 1 column 0 eight ++ tile_bits 1 column 1 eight;
 }
 
@@ -58,11 +58,11 @@ abbrev pub toggle_cells : Graph → Cells
 toggle_cells g = record {
   slices = toggle_slices g;
   pads =
-    clock_at g (codes "k0") D0 1
-    ∷ clock_at g (codes "k1") D1 2
-    ∷ clock_at g (codes "k2") D2 3
-    ∷ output_at g (codes "o0") D0 1
-    ∷ output_at g (codes "o1") D1 2
-    ∷ output_at g (codes "o2") D2 3
-    ∷ [];
+      clock_at g (codes "k0") D0 1
+      ∷ clock_at g (codes "k1") D1 2
+      ∷ clock_at g (codes "k2") D2 3
+      ∷ output_at g (codes "o0") D0 1
+      ∷ output_at g (codes "o1") D1 2
+      ∷ output_at g (codes "o2") D2 3
+      ∷ [];
 }

@@ -1,4 +1,13 @@
-//! Lines, words and numbers of a text, lent as slices of it. No call copies a byte or takes memory.
+//! Lines, words, numbers and pattern bits of a text. Lines and words are slices of the text that is read: no
+//! call copies a byte or takes memory, and a walk over all lines and words looks at each byte a few times.
+//!
+//! ```
+//! for line in lines(text) {
+//!     for word in line.before_hash().words() {
+//!         let number = decimal(word.text);
+//!     }
+//! }
+//! ```
 #![tactic(auto)]
 
 ghost use Rattle.std.specs.Prelude.{◌≡◌, ◌≤◌, length};
@@ -11,6 +20,8 @@ use memchr::memchr;
 mod line;
 mod number;
 mod pattern;
+#[cfg(test)]
+mod tests;
 mod word;
 
 pub use line::{Line, Lines};
@@ -18,7 +29,8 @@ pub use number::decimal;
 pub use pattern::{PatternBit, pattern_bit};
 pub use word::{Word, Words};
 
-/// The lines of a text, in order, numbered from 1.
+/// The lines of a text, in order, numbered from 1: what stands between line feeds, without a carriage return
+/// before the line's end. Behind a last line feed there is no line.
 pub fn lines<'a>(text: &'a [u8]) -> Lines<'a>
     ensures { result ≡ lines_of text.now }
 {

@@ -81,6 +81,15 @@ lines_in_order [] number start text h = tt
 lines_in_order (first ∷ lines) number start text h =
     (λ other found. apart first lines other number start _ text h.0 h.1 h.1.has_feed refl h.3 h.4 found, lines_in_order lines _ _ h.0 h.4)
 
+-- each line takes a byte at least
+ended_takes : (text line after : List ℕ) (b : BeginsWithLine text line after) (t : Bool) → b.has_feed ≡ t → length after < length text
+ended_takes text line after b true is = omega (arith, feed_length b.has_feed is, ap length b.whole, length-append (ended text line after b) after, length-append (line ++ cond b.has_return (13 ∷ []) []) (cond b.has_feed (10 ∷ []) []))
+ended_takes text line after b false is = omega (arith, b.not_empty, ap length (b.last is))
+
+lines_few : (lines : List Line) (number start : ℕ) (text : List ℕ) → IsTextOf number start lines text → length lines ≤ length text
+lines_few [] number start text h = omega arith
+lines_few (first ∷ lines) number start text h = omega (arith, ended_takes text first.text h.0 h.1 h.1.has_feed refl, lines_few lines _ _ h.0 h.4)
+
 -- ---- words
 
 words_stand : (source : List ℕ) (words : List Span) (word : Span) (start : ℕ) (front text back : List ℕ) → IsLineOf start words text
@@ -124,6 +133,11 @@ words_in_order : (words : List Span) (start : ℕ) (text : List ℕ) → IsLineO
 words_in_order [] start text h = tt
 words_in_order (first ∷ words) start text h = (λ other found. words_behind words other _ h.1 h.2.ends h.4 found, words_in_order words _ h.1 h.4)
 
+words_few : (words : List Span) (start : ℕ) (text : List ℕ) → IsLineOf start words text → length words ≤ length text
+words_few [] start text h = omega arith
+words_few (first ∷ words) start text h =
+    omega (arith, words_few words _ h.1 h.4, h.2.has_bytes, ap length h.2.whole, length-append (h.0 ++ first.text) h.1, length-append h.0 first.text)
+
 -- ---- the laws
 
 pub line_stands : (text : List ℕ) (line : Line) → In (lines_of text) line → StandsAt text line.start line.text
@@ -139,6 +153,12 @@ word_stands source line word at found =
 
 pub word_order : (line : Line) → InOrder (words_of line)
 word_order line = words_in_order (words_of line) line.start line.text (words_make line.start line.text)
+
+pub few_lines : (text : List ℕ) → length (lines_of text) ≤ length text
+few_lines text = lines_few (lines_of text) 1 0 text (lines_make text)
+
+pub few_words : (line : Line) → length (words_of line) ≤ length line.text
+few_words line = words_few (words_of line) line.start line.text (words_make line.start line.text)
 
 pub before_hash_stands : (line : Line) → IsBeforeHash line.text (before_hash line).text
 before_hash_stands line = record {

@@ -2,7 +2,7 @@
 //! code but laws, each the contract of a function with an empty body.
 #![tactic(auto)]
 
-ghost use Rattle.std.specs.Prelude.{◌≡◌, ◌<◌, ◌≤◌, ◌^◌, ℕ, true, false, List, [], ◌∷◌, map, codes};
+ghost use Rattle.std.specs.Prelude.{◌≡◌, ◌<◌, ◌≤◌, ◌^◌, ℕ, true, false, List, [], ◌∷◌, length, map, codes};
 ghost use Rattle.std.specs.Fmt.{decimal};
 ghost use Rattle.words.specs.Members.{In};
 ghost use Rattle.patterns.specs.Bits.{PatternBit};
@@ -34,6 +34,11 @@ pub fn lines_come_in_order()
     ensures { (text : List ℕ) → InOrder (map span_of (lines_of text)) }
 {}
 
+/// A text has no more lines than bytes.
+pub fn lines_are_few()
+    ensures { (text : List ℕ) → length (lines_of text) ≤ length text }
+{}
+
 /// The words of a line are all its words: they give the line back, with the blanks around them.
 pub fn words_make_the_line()
     ensures { (line : Line) → IsLineOf line.start (words_of line) line.text }
@@ -54,6 +59,11 @@ pub fn words_are_slices()
 /// Words come in order and don't overlap.
 pub fn words_come_in_order()
     ensures { (line : Line) → InOrder (words_of line) }
+{}
+
+/// A line has no more words than bytes.
+pub fn words_are_few()
+    ensures { (line : Line) → length (words_of line) ≤ length line.text }
 {}
 
 /// The line before its first `#` has no `#`, and behind it stands a `#` or nothing.

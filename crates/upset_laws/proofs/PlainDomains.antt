@@ -148,6 +148,9 @@ module _ (device : Device) (k : Configured) (graph : IsGraph device k.graph) (cl
   prepared : IsPlain device k
   prepared = record { graph = graph; clean = clean; outputs = outputs }
 
+  pub domains_listed : (flips : Bits) (d : Domain) → In (domains_of k (fed_wires k) flips) d ↔ FlipsHave k flips d
+  domains_listed flips d = domains_law device k prepared flips d
+
   pub bad_law : (flips : Bits) → (is_bad k flips ≡ true) ↔ IsBad k flips
   bad_law flips = (
     (λ h. let r = two_from (domains_of k (fed_wires k) flips) h in

@@ -16,7 +16,7 @@ ghost use Rattle.upset.specs.Configured.{circuit_of, Configured};
 ghost use Rattle.upset.specs.Effect.{IsDisturbed, IsEffect, IsHit, IsShortSource};
 ghost use Rattle.upset.specs.Roots.{IsRoot, RootsHave};
 ghost use Rattle.upset.specs.Safe.{FlipsHave, IsBad, IsMuxFault, IsSafe};
-ghost use Rattle.upset_laws.specs.PlainUpset.{OutputsListed, hit_wires, is_bad, is_safe, short_sources};
+ghost use Rattle.upset_laws.specs.PlainUpset.{OutputsListed, domains_of, fed_wires, hit_wires, is_bad, is_safe, short_sources};
 ghost use Rattle.words.specs.Members.{In};
 
 /// In a clean image the domains of flips are those of the hit wires, of the sources of shorted wires and of the
@@ -65,6 +65,12 @@ pub fn hit_wires_are_exact()
 /// The plain list of the sources of shorted wires is exact.
 pub fn short_sources_are_exact()
     ensures { (device : Device) (k : Configured) → IsGraph device k.graph → (flips : Bits) (x : ℕ) → In (short_sources k flips) x ↔ IsShortSource k flips x }
+{}
+
+/// The plain list of the domains of flips is exact.
+pub fn domains_are_exact()
+    ensures { (device : Device) (k : Configured) → IsGraph device k.graph → IsClean (routing_of k.graph k.image) → OutputsListed k
+        → (flips : Bits) (d : Domain) → In (domains_of k (fed_wires k) flips) d ↔ FlipsHave k flips d }
 {}
 
 /// The plain test of bad flips is exact.

@@ -1,0 +1,12 @@
+pub mod Tests
+pub mod Feeding
+pub mod Formed
+pub mod ToggleFormed
+pub mod Voting
+pub mod Rules
+pub mod CopyRules
+pub mod ToggleMeets
+pub mod ExchangeMeets
+pub mod Broken
+pub mod Faulty
+pub mod Rerouted
