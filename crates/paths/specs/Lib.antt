@@ -1,0 +1,4 @@
+pub mod Roads
+pub mod Paths
+pub mod Cuts
+pub mod Wiring
