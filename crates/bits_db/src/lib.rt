@@ -16,7 +16,7 @@ mod database;
 mod error;
 mod pattern;
 mod reader;
-mod words;
+mod row;
 
 pub use database::{Arc, Mux, TileDb};
 pub use error::DbError;

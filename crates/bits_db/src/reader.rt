@@ -8,7 +8,7 @@ ghost use Rattle.grammars.specs.RowByRow.{with_arc, row_step, line_step};
 ghost use Rattle.bits_db.specs.Faults.{fault_of};
 ghost use Rattle.text_cut.specs.Lent.{line_view};
 
-use super::words::arc_of;
+use super::row::arc_of;
 use super::{Arc, DbError, Mux};
 use rr_ids::{Limit, List, Name, NameError};
 use std::alloc::Global;

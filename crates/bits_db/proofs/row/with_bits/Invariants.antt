@@ -1,6 +1,6 @@
 use Rattle.std.proofs.Common.{◌≡◌, ◌++◌, map, option_map}
 use Rattle.grammars.specs.BitsDb as db
-use Rattle.bits_db.proofs.words.with_bits.Given as goal
+use Rattle.bits_db.proofs.row.with_bits.Given as goal
 
 -- the bits so far in front of those of the words that are left are all bits
 abbrev pub invariant-loop-word : goal.invariant-loop-word
