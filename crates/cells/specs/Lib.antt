@@ -2,6 +2,7 @@ pub mod NameOrder
 pub mod Sites
 pub mod Standing
 pub mod Takes
+pub mod CaseCounts
 pub mod Resolved
 pub mod Shapes
 pub mod Readings

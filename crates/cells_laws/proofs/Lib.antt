@@ -4,3 +4,7 @@ pub mod Sites
 pub mod Shapes
 pub mod Faults
 pub mod Named
+pub mod Words
+pub mod Wires
+pub mod CaseCounts
+pub mod Apart
