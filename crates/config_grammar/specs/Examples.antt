@@ -15,12 +15,21 @@ worked_config = record {
   device = codes "MINI-A";
   heads = record { text = codes ".comment  Part: MINI" } ∷ [];
   tiles =
-      record { tile = codes "R1C1:MLC"; line = 9; arcs = []; words = [];
+      record {
+        tile = codes "R1C1:MLC";
+        line = 9;
+        arcs = [];
+        words = [];
         enums = record { name = codes "S0.MODE"; value = codes "LOGIC"; line = 10 } ∷ [];
-        unknowns = record { frame = 10; bit = 2; line = 11 } ∷ [] }
-      ∷ record { tile = codes "R1C2:MLC"; line = 2;
+        unknowns = record { frame = 10; bit = 2; line = 11 } ∷ [];
+      }
+      ∷ record {
+        tile = codes "R1C2:MLC";
+        line = 2;
         arcs = record { sink = codes "A"; source = codes "H0"; line = 4 } ∷ record { sink = codes "H1"; source = codes "W1_H1"; line = 3 } ∷ [];
         words = record { name = codes "S0.K"; bits = true ∷ true ∷ true ∷ false ∷ []; line = 7 } ∷ [];
-        enums = []; unknowns = [] }
+        enums = [];
+        unknowns = [];
+      }
       ∷ [];
 }

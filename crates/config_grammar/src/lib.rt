@@ -11,8 +11,7 @@ ghost use Rattle.config_grammar.specs.Examples.{loose_text, written_text, worked
 pub fn worked_text()
     ensures read { configuration_of loose_text ≡ Ok worked_config }
     ensures written { config_text worked_config ≡ written_text }
-{
-}
+{}
 
 /// The first faults of worked texts.
 pub fn worked_faults()
@@ -23,5 +22,4 @@ pub fn worked_faults()
     ensures no_section { configuration_of (codes ".device A\narc: A B\n") ≡ Err (BadLine 2) }
     ensures second_section { configuration_of (codes ".tile A\n\n.tile B\n.tile A\n") ≡ Err (BadLine 4) }
     ensures bad_digit { configuration_of (codes ".device A\n.tile T\nword: W 012\n") ≡ Err (BadLine 3) }
-{
-}
+{}
