@@ -1,3 +1,4 @@
 pub mod Coded
 pub mod Places
 pub mod Kept
+pub mod Numbers

@@ -19,6 +19,11 @@ abbrev pub CanBeKept : WireName → Type 0
 CanBeKept (Named wire) = HasShortBase wire
 CanBeKept Ignored = ⊥
 
+-- what a name stands for can be kept, or it is ignored
+abbrev pub IsShortOrIgnored : WireName → Type 0
+IsShortOrIgnored (Named wire) = HasShortBase wire
+IsShortOrIgnored Ignored = Unit {0}
+
 -- the number under which a wire is kept
 abbrev pub number_of_name : List Wire → WireName → Option ℕ
 number_of_name wires (Named wire) = number_of wires wire

@@ -1,6 +1,6 @@
 //! The distances at the front of a relative name.
 
-ghost use Rattle.std.specs.Prelude.{◌≡◌, ◌≤ℤ◌, pos, negsuc, neg_ℤ, [], ◌∷◌, MatchOption, None, Some, length, drop, take_while, if◌then◌else◌};
+ghost use Rattle.std.specs.Prelude.{◌≡◌, ◌≤◌, ◌≤ℤ◌, pos, negsuc, neg_ℤ, [], ◌∷◌, MatchOption, None, Some, length, drop, take_while, if◌then◌else◌};
 ghost use Rattle.texts.specs.Numbers.{is_digit, number_up_to};
 ghost use Rattle.fabric.specs.WireNames.{most_distance};
 
@@ -21,7 +21,8 @@ impl<'a> Moved<'a> {
 
     // The distance at the front of a name, which one letter lowers and another one raises.
     pub(crate) fn read(lowers: u8, raises: u8, name: &'a [u8]) -> Moved<'a>
-        ensures { moved_view result ≡ distance_of (lowers ∷ []) (raises ∷ []) name.now }
+        ensures parts { moved_view result ≡ distance_of (lowers ∷ []) (raises ∷ []) name.now }
+        ensures shorter { length result.rest.now ≤ length name.now }
     {
         match name.split_first() {
             Some((letter, behind)) if *letter == lowers => Moved::behind(true, name, behind),
@@ -32,7 +33,8 @@ impl<'a> Moved<'a> {
 
     // The distance of a letter that lowers or raises: the number behind it, or none.
     fn behind(lowers: bool, name: &'a [u8], behind: &'a [u8]) -> Moved<'a>
-        ensures { moved_view result ≡ behind_number (if lowers then (λ n. neg_ℤ (pos n)) else (λ n. pos n)) name.now behind.now }
+        ensures parts { moved_view result ≡ behind_number (if lowers then (λ n. neg_ℤ (pos n)) else (λ n. pos n)) name.now behind.now }
+        ensures shorter { length behind.now ≤ length name.now → length result.rest.now ≤ length name.now }
     {
         match front_number(behind) {
             Some((number, rest)) => Moved {

@@ -12,6 +12,9 @@ use std::alloc::{AllocError, AllocFailed, Global};
 use std::marker::Model;
 use thiserror::Error;
 
+// The most wires that are kept.
+const MOST_WIRES: usize = 16_777_216;
+
 /// Why a wire isn't kept.
 #[derive(Clone, Copy, Debug, PartialEq, Eq, Error)]
 pub enum NamesError {
@@ -91,7 +94,7 @@ impl Names {
             return Ok(id);
         }
         let count = self.codes.len();
-        if count == 16_777_216 {
+        if count == MOST_WIRES {
             return Err(NamesError::Full);
         }
         let code = code_of(w).unwrap();

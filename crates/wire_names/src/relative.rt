@@ -17,13 +17,15 @@ pub(crate) struct Relative<'a> {
 }
 
 impl<'a> Relative<'a> {
-    ghost use Rattle.std.specs.Prelude.{◌≡◌};
+    ghost use Rattle.std.specs.Prelude.{◌≡◌, ◌<◌, ◌≤◌, length};
     ghost use Rattle.fabric.specs.WireOfName.{relative_of};
     ghost use Rattle.wire_names.specs.Parts.{relative_view};
 
     // The distances and the base of a name; none and the whole name where it isn't relative.
     pub(crate) fn read(name: &'a [u8]) -> Relative<'a>
-        ensures { relative_view result ≡ relative_of name.now }
+        ensures parts { relative_view result ≡ relative_of name.now }
+        ensures some { 0 < length name.now → 0 < length result.base.now }
+        ensures shorter { length result.base.now ≤ length name.now }
     {
         let down = Moved::read(b'N', b'S', name);
         let right = Moved::read(b'W', b'E', down.rest);

@@ -1,8 +1,9 @@
 //! The wire that a name stands for.
 
-ghost use Rattle.std.specs.Prelude.{◌≡◌};
+ghost use Rattle.std.specs.Prelude.{◌≡◌, ◌<◌, ◌≤◌, length};
 ghost use Rattle.fabric.specs.WireNames.{IsWireName};
 ghost use Rattle.fabric.specs.WireOfName.{begins_with_one as begins_with_one_of, without_chip as without_chip_of, wire_at as wire_at_of, wire_of_name};
+ghost use Rattle.wire_names.specs.Kept.{IsShortOrIgnored};
 ghost use Rattle.wire_names.specs.LentNames.{wire_name};
 ghost use Rattle.wire_names.specs.Parts.{relative_view};
 
@@ -25,6 +26,9 @@ pub enum WireName<'a> {
 pub fn place<'a>(row: u8, col: u8, name: &'a [u8], rules: &Rules) -> WireName<'a>
     ensures computed { wire_name result ≡ wire_of_name (row, col) name.now rules.now }
     ensures stands { IsWireName (row, col) name.now rules.now (wire_name result) }
+
+    // So what a name of 1 to 255 bytes stands for can be kept, unless it is ignored.
+    ensures short { 0 < length name.now → length name.now ≤ 255 → IsShortOrIgnored (wire_name result) }
 {
     each_name_has_one_wire();
     if begins_with_one(&rules.other_chips, name) {
@@ -46,7 +50,9 @@ fn begins_with_one(prefixes: &List<Name>, name: &[u8]) -> bool
 
 // The name without the chip's prefix, where more stands behind it.
 fn without_chip<'a>(chip: &Option<Name>, name: &'a [u8]) -> &'a [u8]
-    ensures { result.now ≡ without_chip_of chip.now name.now }
+    ensures rest { result.now ≡ without_chip_of chip.now name.now }
+    ensures some { 0 < length name.now → 0 < length result.now }
+    ensures shorter { length result.now ≤ length name.now }
 {
     let Some(prefix) = chip else {
         return name;
@@ -61,7 +67,9 @@ fn without_chip<'a>(chip: &Option<Name>, name: &'a [u8]) -> &'a [u8]
 
 // The wire of a base at a place that is moved.
 fn wire_at<'a>(row: u8, col: u8, rules: &Rules, relative: Relative<'a>) -> WireName<'a>
-    ensures { wire_name result ≡ wire_at_of (row, col) rules.now (relative_view relative.entry) }
+    ensures wire { wire_name result ≡ wire_at_of (row, col) rules.now (relative_view relative.entry) }
+    ensures short { 0 < length relative.entry.base.now → length relative.entry.base.now ≤ 255
+        → IsShortOrIgnored (wire_name result) }
 {
     let base = relative.base;
     if begins_with_one(&rules.wide, base) {
