@@ -1,0 +1,10 @@
+pub mod Patterns
+pub mod Numbers
+pub mod Added
+pub mod Walks
+pub mod Fed
+pub mod Flipped
+pub mod Kept
+pub mod Path
+pub mod Exact
+pub mod Soundness
