@@ -4,5 +4,6 @@ pub mod Turns
 pub mod Usable
 pub mod Routes
 pub mod Lines
+pub mod Layouts
 pub mod Nets
 pub mod Ripping

@@ -1,8 +1,8 @@
 -- The arc lines of a configuration: the line of an arc, a text with one more line, and a text without some. (The
 -- order of lines is our own.)
-use Rattle.std.specs.Prelude.{◌≡◌, ℕ, List, [], ◌∷◌, ◌++◌, slice_get, Option, option_map, option_and_then}
+use Rattle.std.specs.Prelude.{◌≡◌, ℕ, List, [], ◌∷◌, slice_get, Option, option_map, option_and_then}
 use Rattle.std.specs.declared.cmp.Ordering.{Ordering}
-use Rattle.std.specs.Ordering.{match_ordering}
+use Rattle.std.specs.Ordering.{match_ordering, ordering_then}
 use Rattle.std.specs.Option.{option_map_or}
 use Rattle.records.specs.Config.{ArcLine, TileText, Config}
 use Rattle.fabric.specs.Wires.{name_cmp}
@@ -19,9 +19,10 @@ line_of_arc g a =
     option_and_then (λ mux. option_map (λ tile. record { tile = tile.name; line = record { sink = mux.mux.sink; source = a.arc.source; line = 0 } }) (slice_get g.grid.tiles mux.tile))
     (slice_get g.muxes a.mux)
 
--- arc lines are ordered by their bytes: the sink, a space and the source
+-- Arc lines are ordered by their bytes, so by sink, then source: no name has a byte as low as the space between
+-- them.
 abbrev pub arc_line_cmp : ArcLine → ArcLine → Ordering
-arc_line_cmp a b = name_cmp (a.sink ++ 32 ∷ a.source) (b.sink ++ 32 ∷ b.source)
+arc_line_cmp a b = ordering_then (name_cmp a.sink b.sink) (name_cmp a.source b.source)
 
 -- lines in order with one more in its place; a line that stands there already isn't repeated
 abbrev pub with_line : ArcLine → List ArcLine → List ArcLine

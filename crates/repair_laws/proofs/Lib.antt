@@ -1,0 +1,16 @@
+pub mod Patterns
+pub mod Numbers
+pub mod Added
+pub mod Walks
+pub mod Fed
+pub mod Flipped
+pub mod Kept
+pub mod Path
+pub mod Exact
+pub mod Soundness
+pub mod Writes
+pub mod Apart
+pub mod Named
+pub mod Lines
+pub mod Inserted
+pub mod Settings
