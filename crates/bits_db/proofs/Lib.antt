@@ -1,2 +1,4 @@
 pub mod Patterns
 pub mod Names
+pub mod Entries
+pub mod Ends

@@ -5,8 +5,8 @@ use Rattle.std.specs.Str.{bytes_eq}
 use denote.Ref.{Bor}
 use Rattle.std.specs.declared.hash.FoldHasher.{FoldHasher}
 use Rattle.std.specs.declared.hash.BuildHasherDefault.{BuildHasherDefault}
-use Rattle.records.specs.Database.{Arc, Mux}
-use Rattle.grammars.specs.BitsDb.{has_sink, has_source, last_of}
+use Rattle.records.specs.Database.{Arc, Mux, EnumOption, EnumSetting}
+use Rattle.grammars.specs.BitsDb.{has_sink, has_source, has_enum, has_value, last_of}
 
 abbrev pub LentNames : Type 0
 LentNames = HashSet (Bor (List ℕ)) (BuildHasherDefault FoldHasher)
@@ -15,15 +15,25 @@ LentNames = HashSet (Bor (List ℕ)) (BuildHasherDefault FoldHasher)
 abbrev pub HoldsJust : LentNames → (List ℕ → Bool) → Type 0
 HoldsJust names test = (q : Bor (List ℕ)) → contains (λ a b. bytes_eq a.now b.now) names q ≡ test q.now
 
-abbrev pub arcs_of_open : Option Mux → List Arc
-arcs_of_open None = []
-arcs_of_open (Some mux) = mux.arcs
+-- the entries of a record that is there
+abbrev pub entries_of : {X Y : Type 0} → (X → List Y) → Option X → List Y
+entries_of entries None = []
+entries_of entries (Some x) = entries x
 
--- the arcs of the mux that is open behind others, the last of them
-abbrev pub open_arcs : List Mux → List Arc
-open_arcs muxes = arcs_of_open (last_of muxes)
+-- the arcs of the last mux
+abbrev pub last_arcs : List Mux → List Arc
+last_arcs muxes = entries_of (λ m. m.arcs) (last_of muxes)
 
--- the sets hold the sinks of all muxes, and the sources of the open one
-pub record KnowsNames (muxes : List Mux) (of_sinks of_sources : LentNames) : Type 0 where
-  pub sinks : HoldsJust of_sinks (has_sink muxes)
-  pub sources : HoldsJust of_sources (has_source (open_arcs muxes))
+-- the sets hold the sinks of all muxes, and the sources of the last one
+pub record KnowsMuxes (muxes : List Mux) (of_sinks of_sources : LentNames) : Type 0 where
+  pub names : HoldsJust of_sinks (has_sink muxes)
+  pub entries : HoldsJust of_sources (has_source (last_arcs muxes))
+
+-- the options of the last enum
+abbrev pub last_options : List EnumSetting → List EnumOption
+last_options enums = entries_of (λ e. e.options) (last_of enums)
+
+-- the sets hold the names of all enums, and the values of the last one
+pub record KnowsEnums (enums : List EnumSetting) (of_enums of_values : LentNames) : Type 0 where
+  pub names : HoldsJust of_enums (has_enum enums)
+  pub entries : HoldsJust of_values (has_value (last_options enums))

@@ -1,2 +1,5 @@
 pub mod Faults
 pub mod Known
+pub mod KnownEnds
+pub mod Heads
+pub mod Kinds

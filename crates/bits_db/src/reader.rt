@@ -1,152 +1,239 @@
 //! The reader, row by row.
 
-ghost use Rattle.std.specs.Prelude.{◌≡◌, ◌∷◌, map, codes, false};
-ghost use Rattle.std.specs.Str.{bytes_eq};
+ghost use Rattle.std.specs.Prelude.{◌≡◌, ◌∷◌, ◌==◌, map, codes, true, false, Some as Present, None as Absent};
 ghost use Rattle.words.specs.OrMemory.{OrMemory};
-ghost use Rattle.grammars.specs.BitsDb.{arc_fault, last_of, unless_fault};
-ghost use Rattle.grammars.specs.RowByRow.{with_arc, row_step, line_step};
+ghost use Rattle.grammars.specs.BitsDb as db;
+ghost use Rattle.grammars.specs.RowByRow.{nothing_read, with_head as db_with_head, with_row as db_with_row, row_step, line_step};
 ghost use Rattle.bits_db.specs.Faults.{fault_of};
+ghost use Rattle.bits_db.specs.Heads.{head_view, AreNames};
 ghost use Rattle.text_cut.specs.Lent.{line_view};
 
-use super::row::arc_of;
-use super::{Arc, DbError, Mux};
-use rr_ids::{Limit, List, Name, NameError};
+use super::connections::Connections;
+use super::enums::Enums;
+use super::head::{Head, head_of};
+use super::muxes::Muxes;
+use super::settings::WordSettings;
+use super::{DbError, TileDb};
 use std::alloc::Global;
-use std::collections::HashSet;
 use std::marker::Model;
 use text_cut::{Line, Words};
 
-/// The most bits of a pattern.
-const MOST_BITS: usize = 32;
+/// What the rows of a section are.
+#[derive(Clone, Copy)]
+pub(crate) enum Kind {
+    /// Arcs of a mux.
+    Mux,
+    /// Bits of a word.
+    Word,
+    /// Options of an enum.
+    Enum,
+    /// None, behind a fixed connection.
+    Fixed,
+}
 
-/// The muxes that were read so far, of which the last is open. Contracts see the list of them.
+/// What was read so far, and the kind of the last section. Contracts see both.
 #[derive(Drop)]
 pub(crate) struct Reader<'a> {
-    alloc: Global,
-    muxes: List<Mux>,
-    sinks: HashSet<&'a [u8]>,
-    sources: HashSet<&'a [u8]>,
+    kind: Option<Kind>,
+    muxes: Muxes<'a>,
+    words: WordSettings<'a>,
+    enums: Enums<'a>,
+    connections: Connections<'a>,
 }
 
 impl<'a> Model for Reader<'a> {
-    ghost use Rattle.std.specs.Prelude.{List as Seq};
-    ghost use Rattle.records.specs.Database as records;
+    ghost use Rattle.std.specs.Prelude.{option_map};
+    ghost use Rattle.grammars.specs.BitsDb as db;
 
-    ghost Value = { Seq records.Mux };
+    ghost Value = { db.Reading };
 
-    ghost use Rattle.bits_db.specs.Known.{KnowsNames};
+    ghost use Rattle.bits_db.specs.Kinds.{kind_view};
 
-    ghost view = { λ r. r.muxes };
-
-    ghost invariant = { λ r. KnowsNames r.muxes r.sinks r.sources };
+    ghost view = { λ r. record {
+      open_kind = option_map kind_view r.kind;
+      db = record { muxes = r.muxes; words = r.words; enums = r.enums; fixed = r.connections };
+    } };
 }
 
 impl<'a> Reader<'a> {
-    ghost use Rattle.std.specs.Prelude.{[]};
-
-    /// No mux was read yet.
+    /// Nothing was read yet.
     pub(crate) fn new(alloc: Global) -> Reader<'a>
-        ensures { result ≡ [] }
+        ensures { result ≡ nothing_read }
     {
         Reader {
-            alloc,
-            muxes: List::new(alloc),
-            sinks: HashSet::new(alloc),
-            sources: HashSet::new(alloc),
+            kind: None,
+            muxes: Muxes::new(alloc),
+            words: WordSettings::new(alloc),
+            enums: Enums::new(alloc),
+            connections: Connections::new(alloc),
         }
     }
 
-    /// The muxes that were read.
-    pub(crate) fn into_muxes(self) -> List<Mux>
-        ensures { result ≡ self.entry }
+    /// The database that was read.
+    pub(crate) fn into_database(self) -> TileDb
+        ensures { result ≡ self.entry.db }
     {
-        let Reader { muxes, .. } = self;
-        muxes
-    }
-
-    /// The muxes behind a head whose words after `.mux` these are.
-    fn with_head(self, number: u32, mut words: Words<'a>) -> Result<Reader<'a>, DbError>
-        ensures { OrMemory (λ r. r) fault_of result (row_step self.entry (record { number = number; words = codes ".mux" ∷ map (λ w. w.text) words.entry })) }
-    {
-        let Some(sink) = words.next() else {
-            return Err(DbError::BadLine(number));
-        };
-        if words.next().is_some() {
-            return Err(DbError::BadLine(number));
-        }
-        self.with_sink(number, sink.text)
-    }
-
-    // The muxes behind a head `.mux SINK`.
-    fn with_sink(self, number: u32, sink: &'a [u8]) -> Result<Reader<'a>, DbError>
-        ensures { OrMemory (λ r. r) fault_of result (row_step self.entry (record { number = number; words = codes ".mux" ∷ sink.now ∷ [] })) }
-    {
-        let name = match Name::new(self.alloc, sink) {
-            Ok(name) => name,
-            Err(NameError::BadName) => return Err(DbError::BadLine(number)),
-            Err(NameError::Memory) => return Err(DbError::Memory),
-        };
         let Reader {
-            alloc,
-            mut muxes,
-            mut sinks,
+            muxes,
+            words,
+            enums,
+            connections,
             ..
         } = self;
-        if !sinks.insert(sink)? {
-            return Err(DbError::BadLine(number));
+        TileDb {
+            muxes: muxes.into_list(),
+            words: words.into_list(),
+            enums: enums.into_list(),
+            fixed: connections.into_list(),
         }
-        let arcs = List::new(alloc);
-        muxes.push(Mux { sink: name, arcs })?;
-        Ok(Reader {
-            alloc,
-            muxes,
-            sinks,
-            sources: HashSet::new(alloc),
-        })
     }
 
-    // The muxes behind a row that is no head, SOURCE BITS: the open mux gets the arc.
-    fn with_arc(self, number: u32, source: &'a [u8], bits: Words<'a>) -> Result<Reader<'a>, DbError>
-        requires { bytes_eq source.now (codes ".mux") ≡ false }
-        ensures { OrMemory (λ r. r) fault_of result (row_step self.entry (record { number = number; words = source.now ∷ map (λ w. w.text) bits.entry })) }
-    {
-        let Some(arc) = arc_of(self.alloc, source, bits)? else {
-            return Err(DbError::BadLine(number));
-        };
-        self.with_source(number, source, arc)
-    }
-
-    // The muxes with one more arc of the open mux, where it has none of this source.
-    fn with_source(self, number: u32, source: &'a [u8], arc: Arc) -> Result<Reader<'a>, DbError>
-        requires { arc.source ≡ source.now }
-        ensures { OrMemory (λ r. r) fault_of result (unless_fault (arc_fault number (last_of self.entry) arc) (with_arc self.entry arc)) }
+    // What is read behind a head.
+    fn with_head(self, number: u32, head: Head<'a>) -> Result<Reader<'a>, DbError>
+        requires { AreNames head }
+        ensures { OrMemory (λ r. r) fault_of result (db.unless_fault (db.head_fault number self.entry.db (head_view head.entry))
+            (record { open_kind = Present (db.kind_of (head_view head.entry)); db = db_with_head self.entry.db (head_view head.entry) })) }
     {
         let Reader {
-            alloc,
-            mut muxes,
-            sinks,
-            mut sources,
-        } = self;
-        let Some(mut mux) = muxes.pop() else {
-            return Err(DbError::BadLine(number));
-        };
-        if !sources.insert(source)? {
-            return Err(DbError::BadLine(number));
-        }
-        if arc.bits.len() > MOST_BITS {
-            return Err(DbError::TooLarge(Limit::Pattern));
-        }
-        mux.arcs.push(arc)?;
-        muxes.push(mux)?;
-        Ok(Reader {
-            alloc,
             muxes,
-            sinks,
-            sources,
+            words,
+            enums,
+            connections,
+            ..
+        } = self;
+        match head {
+            Head::Mux(sink) => Ok(Reader {
+                kind: Some(Kind::Mux),
+                muxes: muxes.with_sink(number, sink)?,
+                words,
+                enums,
+                connections,
+            }),
+            Head::Word(name) => Ok(Reader {
+                kind: Some(Kind::Word),
+                muxes,
+                words: words.with_name(number, name)?,
+                enums,
+                connections,
+            }),
+            Head::Enum(name, default) => Ok(Reader {
+                kind: Some(Kind::Enum),
+                muxes,
+                words,
+                enums: enums.with_name(number, name, default)?,
+                connections,
+            }),
+            Head::Fixed(sink, source) => Ok(Reader {
+                kind: Some(Kind::Fixed),
+                muxes,
+                words,
+                enums,
+                connections: connections.with(sink, source)?,
+            }),
+        }
+    }
+
+    // What is read behind a row of the last mux.
+    fn with_arc(self, number: u32, first: &'a [u8], rest: Words<'a>) -> Result<Reader<'a>, DbError>
+        ensures { let row = first.now ∷ map (λ w. w.text) rest.entry in
+            OrMemory (λ r. r) fault_of result (db.unless_fault (db.row_fault number (Present db.OfMux) self.entry.db row)
+            (record { open_kind = Present db.OfMux; db = db_with_row (Present db.OfMux) self.entry.db row })) }
+    {
+        let Reader {
+            muxes,
+            words,
+            enums,
+            connections,
+            ..
+        } = self;
+        let muxes = muxes.with_row(number, first, rest)?;
+        Ok(Reader {
+            kind: Some(Kind::Mux),
+            muxes,
+            words,
+            enums,
+            connections,
         })
     }
 
-    /// The muxes behind a line.
+    // What is read behind a row of the last word.
+    fn with_bits(self, number: u32, first: &'a [u8], rest: Words<'a>) -> Result<Reader<'a>, DbError>
+        ensures { let row = first.now ∷ map (λ w. w.text) rest.entry in
+            OrMemory (λ r. r) fault_of result (db.unless_fault (db.row_fault number (Present db.OfWord) self.entry.db row)
+            (record { open_kind = Present db.OfWord; db = db_with_row (Present db.OfWord) self.entry.db row })) }
+    {
+        let Reader {
+            muxes,
+            words,
+            enums,
+            connections,
+            ..
+        } = self;
+        let words = words.with_row(number, first, rest)?;
+        Ok(Reader {
+            kind: Some(Kind::Word),
+            muxes,
+            words,
+            enums,
+            connections,
+        })
+    }
+
+    // What is read behind a row of the last enum.
+    fn with_option(
+        self,
+        number: u32,
+        first: &'a [u8],
+        rest: Words<'a>,
+    ) -> Result<Reader<'a>, DbError>
+        ensures { let row = first.now ∷ map (λ w. w.text) rest.entry in
+            OrMemory (λ r. r) fault_of result (db.unless_fault (db.row_fault number (Present db.OfEnum) self.entry.db row)
+            (record { open_kind = Present db.OfEnum; db = db_with_row (Present db.OfEnum) self.entry.db row })) }
+    {
+        let Reader {
+            muxes,
+            words,
+            enums,
+            connections,
+            ..
+        } = self;
+        let enums = enums.with_row(number, first, rest)?;
+        Ok(Reader {
+            kind: Some(Kind::Enum),
+            muxes,
+            words,
+            enums,
+            connections,
+        })
+    }
+
+    // What is read behind a row of the last section.
+    fn with_row(self, number: u32, first: &'a [u8], rest: Words<'a>) -> Result<Reader<'a>, DbError>
+        ensures { let row = first.now ∷ map (λ w. w.text) rest.entry in
+            OrMemory (λ r. r) fault_of result (db.unless_fault (db.row_fault number self.entry.open_kind self.entry.db row)
+            (record { open_kind = self.entry.open_kind; db = db_with_row self.entry.open_kind self.entry.db row })) }
+    {
+        match self.kind {
+            Some(Kind::Mux) => self.with_arc(number, first, rest),
+            Some(Kind::Word) => self.with_bits(number, first, rest),
+            Some(Kind::Enum) => self.with_option(number, first, rest),
+            Some(Kind::Fixed) | None => Err(DbError::BadLine(number)),
+        }
+    }
+
+    // What is read behind a row that begins with a dot.
+    fn with_dot(self, number: u32, first: &'a [u8], rest: Words<'a>) -> Result<Reader<'a>, DbError>
+        requires { db.begins_with_dot (first.now ∷ map (λ w. w.text) rest) ≡ true }
+        ensures { let row = first.now ∷ map (λ w. w.text) rest.entry in
+            OrMemory (λ r. r) fault_of result (row_step self.entry (record { number = number; words = row })) }
+    {
+        match head_of(first, rest) {
+            Some(head) => self.with_head(number, head),
+            None => Err(DbError::BadLine(number)),
+        }
+    }
+
+    /// What is read behind a line.
     pub(crate) fn with_line(self, line: &Line<'a>) -> Result<Reader<'a>, DbError>
         ensures { OrMemory (λ r. r) fault_of result (line_step self.entry (line_view line.now)) }
     {
@@ -154,9 +241,9 @@ impl<'a> Reader<'a> {
         let Some(first) = words.next() else {
             return Ok(self);
         };
-        if first.text == b".mux".as_slice() {
-            return self.with_head(line.number, words);
+        if first.text.first() == Some(&b'.') {
+            return self.with_dot(line.number, first.text, words);
         }
-        self.with_arc(line.number, first.text, words)
+        self.with_row(line.number, first.text, words)
     }
 }

@@ -1,9 +1,10 @@
 //! What the words of a row stand for.
 
-ghost use Rattle.std.specs.Prelude.{◌≡◌, ◌∷◌, ◌++◌, map, option_map, IfOk};
+ghost use Rattle.std.specs.Prelude.{◌≡◌, ◌∷◌, ◌++◌, map, option_map, IfOk, true};
+ghost use Rattle.texts.specs.Names.{is_name};
 ghost use Rattle.grammars.specs.BitsDb as db;
 
-use super::{Arc, Pattern};
+use super::{Arc, EnumOption, Pattern};
 use rr_ids::{Name, NameError};
 use std::alloc::{AllocError, Global};
 use text_cut::{Words, pattern_bit};
@@ -22,23 +23,34 @@ fn with_bits(mut pattern: Pattern, words: Words<'_>) -> Result<Option<Pattern>, 
     Ok(Some(pattern))
 }
 
-// The pattern of BITS: `-` alone, or one or more bits.
+/// The pattern of BITS, a first word and those behind it: `-` alone, or one or more bits.
+pub(crate) fn pattern_of(
+    alloc: Global,
+    first: &[u8],
+    mut words: Words<'_>,
+) -> Result<Option<Pattern>, AllocError>
+    ensures { IfOk result (λ found. found ≡ db.bits_of (first.now ∷ map (λ w. w.text) words.entry)) }
+{
+    let mut pattern = Pattern::new(alloc);
+    if first == b"-".as_slice() {
+        let alone = words.next().is_none();
+        return Ok(if alone { Some(pattern) } else { None });
+    }
+    let Some(bit) = pattern_bit(first) else {
+        return Ok(None);
+    };
+    pattern.push(bit)?;
+    with_bits(pattern, words)
+}
+
+// The pattern of words, where they are BITS.
 fn bits_of(alloc: Global, mut words: Words<'_>) -> Result<Option<Pattern>, AllocError>
     ensures { IfOk result (λ found. found ≡ db.bits_of (map (λ w. w.text) words.entry)) }
 {
     let Some(first) = words.next() else {
         return Ok(None);
     };
-    let mut pattern = Pattern::new(alloc);
-    if first.text == b"-".as_slice() {
-        let alone = words.next().is_none();
-        return Ok(if alone { Some(pattern) } else { None });
-    }
-    let Some(bit) = pattern_bit(first.text) else {
-        return Ok(None);
-    };
-    pattern.push(bit)?;
-    with_bits(pattern, words)
+    pattern_of(alloc, first.text, words)
 }
 
 /// The arc of a row `SOURCE BITS`, where it is one.
@@ -49,9 +61,6 @@ pub(crate) fn arc_of(
 ) -> Result<Option<Arc>, AllocError>
     ensures { IfOk result (λ found. found ≡ db.arc_of (source.now ∷ map (λ w. w.text) bits.entry)) }
 {
-    if source.first() == Some(&b'.') {
-        return Ok(None);
-    }
     let source = match Name::new(alloc, source) {
         Ok(source) => source,
         Err(NameError::BadName) => return Ok(None),
@@ -61,4 +70,35 @@ pub(crate) fn arc_of(
         return Ok(None);
     };
     Ok(Some(Arc { source, bits }))
+}
+
+/// The option of a row `VALUE BITS`, where it is one.
+pub(crate) fn option_of(
+    alloc: Global,
+    value: &[u8],
+    bits: Words<'_>,
+) -> Result<Option<EnumOption>, AllocError>
+    ensures { IfOk result (λ found. found ≡ db.option_of (value.now ∷ map (λ w. w.text) bits.entry)) }
+{
+    let value = match Name::new(alloc, value) {
+        Ok(value) => value,
+        Err(NameError::BadName) => return Ok(None),
+        Err(NameError::Memory) => return Err(AllocError),
+    };
+    let Some(bits) = bits_of(alloc, bits)? else {
+        return Ok(None);
+    };
+    Ok(Some(EnumOption { value, bits }))
+}
+
+/// The name of bytes that are one.
+pub(crate) fn name_of(alloc: Global, bytes: &[u8]) -> Result<Name, AllocError>
+    requires { is_name bytes.now ≡ true }
+    ensures { IfOk result (λ name. name ≡ bytes.now) }
+{
+    match Name::new(alloc, bytes) {
+        Ok(name) => Ok(name),
+        Err(NameError::BadName) => unreachable!(),
+        Err(NameError::Memory) => Err(AllocError),
+    }
 }

@@ -1,1 +1,4 @@
+pub mod Lasts
+pub mod Connections
+pub mod Readings
 pub mod RowLemmas

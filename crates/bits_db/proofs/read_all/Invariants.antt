@@ -1,8 +1,8 @@
-use Rattle.std.proofs.Common.{◌≡◌, []}
+use Rattle.std.proofs.Common.{◌≡◌}
 use Rattle.texts.specs.Lines.{lines_of}
-use Rattle.grammars.specs.RowByRow.{read_lines}
+use Rattle.grammars.specs.RowByRow.{nothing_read, read_lines}
 use Rattle.bits_db.proofs.read_all.Given as goal
 
 -- reading the lines that are left is reading all
 abbrev pub invariant-loop-line : goal.invariant-loop-line
-invariant-loop-line l = read_lines l.reader l.line-iterator ≡ read_lines [] (lines_of l.fn.bytes)
+invariant-loop-line l = read_lines l.reader l.line-iterator ≡ read_lines nothing_read (lines_of l.fn.bytes)

@@ -1,22 +1,24 @@
-use Rattle.std.proofs.Common.{◌≡◌, ◌∷◌, ◌++◌, [], List, true, false, Ok, length, nat_lt, sym, ap, ◌∙◌, arith}
+use Rattle.std.proofs.Common.{◌≡◌, ◌∷◌, ◌++◌, [], List, true, false, Ok, Some, length, nat_lt, refl, sym, ap, ◌∙◌, arith}
 use Rattle.std.proofs.lemmas.Bool.Decides.{nat_tests}
 use Rattle.records.specs.Database.{Arc, Mux}
 use Rattle.grammars.specs.BitsDb.{most_bits, has_sink, has_source}
 use Rattle.grammars.specs.RowByRow.{with_arc}
-use Rattle.bits_db.specs.Known.{open_arcs}
-use Rattle.bits_db.proofs.Names.{not_false, not_true, source_known, second_arc, long_arc, new_arc, sinks_with_arc, with_arc_pushed, sources_with_one}
-use Rattle.bits_db.proofs.reader.Reader.with_source.Goals as goal
+use Rattle.grammars.proofs.Lasts.{with_last_pushed}
+use Rattle.bits_db.specs.Known.{last_arcs}
+use Rattle.bits_db.proofs.Names.{not_false, not_true, entry_known, entries_with_one, names_with_last}
+use Rattle.bits_db.proofs.Entries.{second_arc, long_arc, new_arc}
+use Rattle.bits_db.proofs.muxes.Muxes.with_arc.Goals as goal
 
 pub returns-then-not-branch : goal.returns-then-not-branch
 returns-then-not-branch c =
     let known = not_false _ (sym c.in_ok-insert.ensures.added ∙ c.if-not-branch.true) in
-    let has = source_known c.self.inside.muxes c.pop.new.self c.in-Some.mux c.args.arc c.self.inside.sources c.args.source true c.in-Some.ensures c.requires c.self.invariant.sources known in
+    let has = entry_known (λ (a : Arc). a.source) (λ (m : Mux). m.arcs) c.self.inside.muxes c.pop.new.self c.in-Some.mux c.self.inside.sources c.args.arc.source c.args.source true c.in-Some.ensures c.requires c.self.invariant.entries known in
     second_arc c.args.number c.args.self c.pop.new.self c.in-Some.mux c.args.arc _ (sym c.self.view_is ∙ c.in-Some.ensures) has
 
 pub returns-then-len-gt-MOST_BITS : goal.returns-then-len-gt-MOST_BITS
 returns-then-len-gt-MOST_BITS c =
     let known = not_true _ (sym c.in_ok-insert.ensures.added ∙ c.if-not-branch.false) in
-    let has = source_known c.self.inside.muxes c.pop.new.self c.in-Some.mux c.args.arc c.self.inside.sources c.args.source false c.in-Some.ensures c.requires c.self.invariant.sources known in
+    let has = entry_known (λ (a : Arc). a.source) (λ (m : Mux). m.arcs) c.self.inside.muxes c.pop.new.self c.in-Some.mux c.self.inside.sources c.args.arc.source c.args.source false c.in-Some.ensures c.requires c.self.invariant.entries known in
     let bits : length c.arc.inside.bits ≡ length c.args.arc.bits = ap (λ (a : Arc). length a.bits) c.arc.view_is in
     let many = c.if-len-gt-MOST_BITS.true in
     let counted = c.len.ensures in
@@ -29,19 +31,20 @@ invariant_of-result c =
     let front = c.pop.new.self in
     let mux = c.in-Some.mux in
     let arc = c.args.arc in
+    let change : Mux → Mux = λ m. record { sink = m.sink; arcs = m.arcs ++ arc ∷ [] } in
     let pushed : c.push.new.self ≡ c.mux.inside.arcs ++ arc ∷ [] = c.in_ok-push.ensures.ok in
     let stored : c.push-2.new.self ≡ front ++ record { sink = c.mux.inside.sink; arcs = c.push.new.self } ∷ [] = c.in_ok-push-2.ensures.ok in
-    let new : c.push-2.new.self ≡ front ++ record { sink = mux.sink; arcs = mux.arcs ++ arc ∷ [] } ∷ [] =
+    let new : c.push-2.new.self ≡ front ++ change mux ∷ [] =
     stored ∙ ap (λ arcs. front ++ record { sink = c.mux.inside.sink; arcs = arcs } ∷ []) pushed
-    ∙ ap (λ (m : Mux). front ++ record { sink = m.sink; arcs = m.arcs ++ arc ∷ [] } ∷ []) c.mux.view_is in
-    let all : c.push-2.new.self ≡ with_arc muxes arc = new ∙ sym (with_arc_pushed front mux arc) ∙ ap (λ ms. with_arc ms arc) (sym c.in-Some.ensures) in
+    ∙ ap (λ (m : Mux). front ++ change m ∷ []) c.mux.view_is in
+    let all : c.push-2.new.self ≡ with_arc muxes (Some arc) = new ∙ sym (with_last_pushed change front mux) ∙ ap (λ ms. with_arc ms (Some arc)) (sym c.in-Some.ensures) in
     record {
-      sinks = λ q. c.self.invariant.sinks q ∙ sym (ap (λ ms. has_sink ms q.now) all ∙ sinks_with_arc muxes arc q.now);
-      sources = λ q.
-          sources_with_one front mux arc c.self.inside.sources c.insert.new.self c.args.source c.requires
-          (λ p. c.self.invariant.sources p ∙ ap (λ ms. has_source (open_arcs ms) p.now) c.in-Some.ensures)
+      names = λ q. c.self.invariant.names q ∙ sym (ap (λ ms. has_sink ms q.now) all ∙ names_with_last (λ (m : Mux). m.sink) change (λ m. refl) muxes q.now);
+      entries = λ q.
+          entries_with_one (λ (a : Arc). a.source) (λ (m : Mux). m.arcs) front mux (change mux) arc c.self.inside.sources c.insert.new.self c.args.source c.requires refl
+          (λ p. c.self.invariant.entries p ∙ ap (λ ms. has_source (last_arcs ms) p.now) c.in-Some.ensures)
           c.in_ok-insert.ensures.updates.0 q
-          ∙ ap (λ ms. has_source (open_arcs ms) q.now) (sym new);
+          ∙ ap (λ ms. has_source (last_arcs ms) q.now) (sym new);
     }
 
 pub returns : goal.returns
@@ -49,17 +52,18 @@ returns c =
     let front = c.pop.new.self in
     let mux = c.in-Some.mux in
     let arc = c.args.arc in
+    let change : Mux → Mux = λ m. record { sink = m.sink; arcs = m.arcs ++ arc ∷ [] } in
     let pushed : c.push.new.self ≡ c.mux.inside.arcs ++ arc ∷ [] = c.in_ok-push.ensures.ok in
     let stored : c.push-2.new.self ≡ front ++ record { sink = c.mux.inside.sink; arcs = c.push.new.self } ∷ [] = c.in_ok-push-2.ensures.ok in
-    let new : c.push-2.new.self ≡ front ++ record { sink = mux.sink; arcs = mux.arcs ++ arc ∷ [] } ∷ [] =
+    let new : c.push-2.new.self ≡ front ++ change mux ∷ [] =
     stored ∙ ap (λ arcs. front ++ record { sink = c.mux.inside.sink; arcs = arcs } ∷ []) pushed
-    ∙ ap (λ (m : Mux). front ++ record { sink = m.sink; arcs = m.arcs ++ arc ∷ [] } ∷ []) c.mux.view_is in
+    ∙ ap (λ (m : Mux). front ++ change m ∷ []) c.mux.view_is in
     let split : c.args.self ≡ front ++ mux ∷ [] = sym c.self.view_is ∙ c.in-Some.ensures in
-    let all : with_arc c.args.self arc ≡ c.push-2.new.self = ap (λ ms. with_arc ms arc) split ∙ with_arc_pushed front mux arc ∙ sym new in
+    let all : with_arc c.args.self (Some arc) ≡ c.push-2.new.self = ap (λ ms. with_arc ms (Some arc)) split ∙ with_last_pushed change front mux ∙ sym new in
     let known = not_true _ (sym c.in_ok-insert.ensures.added ∙ c.if-not-branch.false) in
-    let has = source_known c.self.inside.muxes front mux arc c.self.inside.sources c.args.source false c.in-Some.ensures c.requires c.self.invariant.sources known in
+    let has = entry_known (λ (a : Arc). a.source) (λ (m : Mux). m.arcs) c.self.inside.muxes front mux c.self.inside.sources arc.source c.args.source false c.in-Some.ensures c.requires c.self.invariant.entries known in
     let bits : length c.arc.inside.bits ≡ length arc.bits = ap (λ (a : Arc). length a.bits) c.arc.view_is in
     let few = c.if-len-gt-MOST_BITS.false in
     let counted = c.len.ensures in
     let short : nat_lt most_bits (length arc.bits) ≡ false = grind (arith, nat_tests) in
-    new_arc c.args.number c.args.self front mux arc (with_arc c.args.self arc) split has short ∙ ap (λ (ms : List Mux). Ok ms) all
+    new_arc c.args.number c.args.self front mux arc (with_arc c.args.self (Some arc)) split has short ∙ ap (λ (ms : List Mux). Ok ms) all
