@@ -1,0 +1,11 @@
+pub mod NameOrder
+pub mod Sites
+pub mod Standing
+pub mod Takes
+pub mod CaseCounts
+pub mod Resolved
+pub mod Shapes
+pub mod Readings
+pub mod Faults
+pub mod Accepted
+pub mod CellsOf

@@ -1,0 +1,4 @@
+pub mod Sides
+pub mod Kinds
+pub mod Renamed
+pub mod Devices

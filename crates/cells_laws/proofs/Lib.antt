@@ -1,0 +1,10 @@
+pub mod Options
+pub mod NameOrder
+pub mod Sites
+pub mod Shapes
+pub mod Faults
+pub mod Named
+pub mod Words
+pub mod Wires
+pub mod CaseCounts
+pub mod Apart
