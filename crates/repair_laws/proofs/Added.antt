@@ -16,7 +16,7 @@ use Rattle.repair.specs.Added.{with_arc, added}
 use Rattle.repair.specs.Turns.{routing}
 use Rattle.repair.specs.Usable.{IsRoutable}
 use Rattle.repair_laws.proofs.Patterns.{write_off, fits_agree, present_agree, flip_agree, set_bit}
-use Rattle.repair_laws.proofs.Numbers.{IsNumbered, in_mux_bits, IsPicked, picked, is_picked, LeadsBy, driven_by, drives_by, drives_fixed}
+use Rattle.repair_laws.proofs.Numbers.{IsNumbered, in_mux_bits, picked, is_picked, driven_by, drives_by, drives_fixed}
 
 -- arcs of a mux whose bits two images have alike are chosen alike
 pub chosen_agree : (g : Graph) → IsNumbered g → (i j : Bits) (c : GraphArc) → In g.arcs c

@@ -1,9 +1,9 @@
 -- The effect of flips after an arc, exactly.
-use Rattle.std.proofs.Common.{◌≡◌, ◌≢◌, ℕ, true, ◌⊎◌, ◌↔◌, inl, inr, sym, subst}
+use Rattle.std.proofs.Common.{◌≡◌, ℕ, true, ◌⊎◌, inl, inr, sym, subst}
 use Rattle.words.specs.Members.{In}
 use Rattle.patterns.specs.Bits.{DeviceBit, Bits}
 use Rattle.records.specs.Side.{Domain}
-use Rattle.links.specs.Links.{Counting, Upstream, here, Below, IsClean}
+use Rattle.links.specs.Links.{Counting, here, IsClean}
 use Rattle.links.proofs.Walks.{reaches_by}
 use Rattle.fabric.specs.Graph.{GraphArc}
 use Rattle.circuit.specs.Domains.{HasDomain}

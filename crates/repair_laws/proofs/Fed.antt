@@ -1,5 +1,5 @@
 -- Feeds, cleanness, domains and lines with one more arc that the routing takes.
-use Rattle.std.proofs.Common.{◌≡◌, ℕ, true, ◌⊎◌, ◌↔◌, inl, inr, refl, sym, ap, subst, ◌∙◌}
+use Rattle.std.proofs.Common.{◌≡◌, ℕ, true, ◌⊎◌, ◌↔◌, inl, inr, sym, ap, subst, ◌∙◌}
 use Rattle.words.specs.Members.{In}
 use Rattle.records.specs.Config.{Config}
 use Rattle.records.specs.Side.{Domain}

@@ -1,37 +1,34 @@
 -- The effect of flips with one more usable arc.
-use Rattle.std.proofs.Common.{◌≡◌, ◌≢◌, ℕ, Bool, true, false, ◌⊎◌, ◌↔◌, inl, inr, List, refl, sym, ap, subst, ◌∙◌}
+use Rattle.std.proofs.Common.{◌≡◌, ◌≢◌, ℕ, Bool, true, false, ◌⊎◌, inl, inr, List, refl, sym, ap, subst, ◌∙◌}
 use Rattle.std.specs.Prelude.{if◌then◌else◌, map, filter}
 use Rattle.std.specs.List.{list_any}
-use Rattle.std.proofs.lemmas.Bool.{false≢true}
 use Rattle.words.specs.Members.{In}
-use Rattle.patterns.specs.Bits.{DeviceBit, Bits, same_bit, flipped}
+use Rattle.patterns.specs.Bits.{DeviceBit, Bits, flipped}
 use Rattle.patterns.specs.Fits.{present}
 use Rattle.records.specs.Side.{Domain}
 use Rattle.links.specs.Links.{here, Below, IsClean}
 use Rattle.links.proofs.Members.{same_number, in_either, of_map}
 use Rattle.fabric.specs.Graph.{GraphArc, Graph}
-use Rattle.fabric.specs.Links.{is_chosen, link_of}
+use Rattle.fabric.specs.Links.{is_chosen}
 use Rattle.fabric.specs.MuxBits.{bits_named, is_mux_bit}
-use Rattle.circuit.specs.Cells.{SliceCell, PadCell, Cells}
-use Rattle.circuit.specs.Triples.{LiesIn}
 use Rattle.circuit.specs.Domains.{HasDomain}
 use Rattle.circuit.specs.WellFormed.{OutputsApart}
 use Rattle.upset.specs.Configured.{Configured, circuit_of}
 use Rattle.upset.specs.After.{is_affected, conducts}
-use Rattle.upset.specs.Effect.{After, IsHit, HasTwoAfter, DrivesOutput, IsShorted, IsShortSource, IsDisturbed, touched_names, IsTouched}
+use Rattle.upset.specs.Effect.{After, IsHit, IsShortSource, IsDisturbed, IsTouched}
 use Rattle.upset.specs.Safe.{FlipsHave, only, IsSafe}
 use Rattle.fabric_laws.proofs.Members.{any_from, any_to, in_filter_from}
-use Rattle.fabric_laws.proofs.SameBits.{same_is, same_refl}
+use Rattle.fabric_laws.proofs.SameBits.{same_is}
 use Rattle.fabric_laws.proofs.Chosen.{arc_links, in_mux_to, in_mux_from}
 use Rattle.upset_laws.proofs.Roots.{domain_along}
 use Rattle.repair.specs.Plain.{bits_of_mux}
-use Rattle.repair.specs.Added.{with_arc, added}
+use Rattle.repair.specs.Added.{added}
 use Rattle.repair.specs.Turns.{Turn, routing}
 use Rattle.repair.specs.Usable.{IsUsable}
 use Rattle.repair_laws.specs.Ready.{BitsAreSettings}
-use Rattle.repair_laws.proofs.Numbers.{IsNumbered, in_mux_bits, NamesBit, of_mux_bits, mux_bit_named}
+use Rattle.repair_laws.proofs.Numbers.{IsNumbered, in_mux_bits, of_mux_bits, mux_bit_named}
 use Rattle.repair_laws.proofs.Added.{present_off, chosen_from, chosen_to, into_sink, link_old, link_new}
-use Rattle.repair_laws.proofs.Fed.{one_domain, domain_old, domain_new, domain_below, clean_new}
+use Rattle.repair_laws.proofs.Fed.{one_domain, domain_new, clean_new}
 
 -- flips that affect a mux name one of its bits
 pub affected_bit : (g : Graph) (flips : Bits) (mux : ℕ) → is_affected g flips mux ≡ true → (b : DeviceBit) × (In (bits_of_mux g mux) b × (flips b ≡ true))

@@ -1,14 +1,11 @@
 -- A usable arc stays usable after another one of another sink, so that a path can be added arc by arc.
-use Rattle.std.proofs.Common.{◌≡◌, ◌≢◌, ℕ, true, ◌⊎◌, ◌↔◌, inl, inr, List, [], ◌∷◌, refl, sym, ap, subst, ◌∙◌}
+use Rattle.std.proofs.Common.{◌≡◌, ◌≢◌, ℕ, true, inl, inr, sym, subst, ◌∙◌}
 use Rattle.words.specs.Members.{In}
-use Rattle.patterns.specs.Bits.{DeviceBit, Bits, flipped}
+use Rattle.patterns.specs.Bits.{DeviceBit, flipped}
 use Rattle.patterns.specs.Fits.{present}
 use Rattle.records.specs.Side.{Domain}
-use Rattle.links.specs.Links.{Drives, here, onto, Below, Feeds, Fed, IsClean}
-use Rattle.links.proofs.Walks.{reaches_by}
-use Rattle.links.proofs.Feeds.{one_feed}
+use Rattle.links.specs.Links.{Drives, here, onto, Below, Fed, IsClean}
 use Rattle.fabric.specs.Graph.{GraphArc}
-use Rattle.fabric.specs.Links.{is_chosen}
 use Rattle.fabric.specs.MuxBits.{bits_named, is_mux_bit}
 use Rattle.circuit.specs.Domains.{HasDomain}
 use Rattle.circuit.specs.WellFormed.{OutputsApart}
@@ -68,8 +65,8 @@ module _ (t : Turn) (num : IsNumbered t.now.graph) (outs : OutputsApart (circuit
       → present (flipped (only x) (with_arc (added t.now a).image b)) c.origin c.arc.bits ≡ true → (d : Domain) → HasDomain (circuit_of (added t.now a)) c.source d → d ≡ t.net.domain
   kept_flips x mine c i s p d h =
       let q : present (flipped (only x) (with_arc t.now.image b)) c.origin c.arc.bits ≡ true =
-          sym (present_agree (flipped (only x) (with_arc (added t.now a).image b)) (flipped (only x) (with_arc t.now.image b)) c.origin c.arc.bits
-          (λ y n. flip_agree (only x) (with_arc (added t.now a).image b) (with_arc t.now.image b) y (same_bits c i s y n))) ∙ p in
+      sym (present_agree (flipped (only x) (with_arc (added t.now a).image b)) (flipped (only x) (with_arc t.now.image b)) c.origin c.arc.bits
+      (λ y n. flip_agree (only x) (with_arc (added t.now a).image b) (with_arc t.now.image b) y (same_bits c i s y n))) ∙ p in
       elim (domain_new t.now t.config a num use_a.routable outs fed c.source d h) [ inl old ↦ use_b.flips x mine c i s q d old | inr k ↦ k.1 ]
 
   kept_disturbed : (x : DeviceBit) → is_mux_bit t.now.graph x ≡ true → (v : ℕ) → Below (routing t.now) b.sink v → IsDisturbed (added t.now a) (only x) v

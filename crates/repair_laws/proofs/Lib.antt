@@ -8,9 +8,3 @@ pub mod Kept
 pub mod Path
 pub mod Exact
 pub mod Soundness
-pub mod Writes
-pub mod Apart
-pub mod Named
-pub mod Lines
-pub mod Inserted
-pub mod Settings

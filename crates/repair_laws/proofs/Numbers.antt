@@ -1,5 +1,5 @@
 -- What the numbers of arcs and muxes mean, and chosen arcs by all arcs of their mux.
-use Rattle.std.proofs.Common.{◌≡◌, ℕ, ◌≤◌, true, ◌⊎◌, inl, inr, List, length, Some, refl, sym, ap, subst, ◌∙◌}
+use Rattle.std.proofs.Common.{◌≡◌, ℕ, ◌≤◌, true, ◌⊎◌, inl, inr, length, Some, refl, sym, ap, subst, ◌∙◌}
 use Rattle.std.specs.Prelude.{slice_get}
 use Rattle.words.specs.Members.{In}
 use Rattle.patterns.specs.Bits.{DeviceBit, Bits}
@@ -9,7 +9,7 @@ use Rattle.links.proofs.Members.{in_flat_map, of_flat_map}
 use Rattle.fabric.specs.Device.{Device}
 use Rattle.fabric.specs.Graph.{GraphMux, GraphArc, Graph}
 use Rattle.fabric.specs.GraphOf.{IsGraph}
-use Rattle.fabric.specs.Links.{is_chosen, link_of, routing_of}
+use Rattle.fabric.specs.Links.{is_chosen, routing_of}
 use Rattle.fabric.specs.MuxBits.{bits_named, is_mux_bit}
 use Rattle.fabric_laws.proofs.Chosen.{chosen_arc, links_law, mux_bits_law, in_mux_to, in_mux_from}
 use Rattle.fabric_laws.proofs.Graphs.{some_same}

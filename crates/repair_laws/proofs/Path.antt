@@ -1,27 +1,27 @@
 -- A path is added arc by arc.
-use Rattle.std.proofs.Common.{◌≡◌, ◌≢◌, ℕ, true, ◌⊎◌, ◌↔◌, inl, inr, List, [], ◌∷◌, refl, sym, ap, subst, ◌∙◌}
+use Rattle.std.proofs.Common.{◌≡◌, ◌≢◌, ℕ, true, ◌⊎◌, ◌↔◌, inl, inr, List, [], ◌∷◌, refl, sym, subst}
 use Rattle.words.specs.Members.{In}
 use Rattle.patterns.specs.Bits.{Bits}
 use Rattle.patterns.specs.Fits.{has_plain_bit}
 use Rattle.records.specs.Config.{Config}
 use Rattle.records.specs.Side.{Domain}
-use Rattle.links.specs.Links.{Drives, here, onto, Below, Feeds, Fed, IsClean}
-use Rattle.links.proofs.Walks.{reaches_by, reaches_on}
+use Rattle.links.specs.Links.{Drives, Below, Feeds, IsClean}
+use Rattle.links.proofs.Walks.{reaches_by}
 use Rattle.links.proofs.Feeds.{one_feed}
 use Rattle.fabric.specs.Graph.{GraphArc, Graph}
 use Rattle.fabric.specs.Links.{is_chosen}
 use Rattle.fabric.specs.Agree.{HasLine, ArcsAgree}
-use Rattle.circuit.specs.Parts.{Source, sources}
+use Rattle.circuit.specs.Parts.{sources}
 use Rattle.circuit.specs.Domains.{HasDomain}
 use Rattle.circuit.specs.WellFormed.{OutputsApart}
-use Rattle.upset.specs.Configured.{Configured, circuit_of}
+use Rattle.upset.specs.Configured.{circuit_of}
 use Rattle.upset.specs.Safe.{IsSafe}
 use Rattle.fabric_laws.proofs.Agreeing.{line_listed}
-use Rattle.paths.specs.Paths.{LeadsOn, IsPath, HasNoSinkTwice}
-use Rattle.repair.specs.Added.{with_arc, with_arcs, added, added_all}
+use Rattle.paths.specs.Paths.{LeadsOn, HasNoSinkTwice}
+use Rattle.repair.specs.Added.{added, added_all}
 use Rattle.repair.specs.Turns.{Turn, routing}
 use Rattle.repair.specs.Usable.{IsUsable}
-use Rattle.repair.specs.Routes.{roads_for, InTree, IsRoute}
+use Rattle.repair.specs.Routes.{roads_for, IsRoute}
 use Rattle.repair_laws.specs.Ready.{BitsAreSettings}
 use Rattle.repair_laws.specs.Kept.{IsBelowOne, AreKept}
 use Rattle.repair_laws.proofs.Numbers.{IsNumbered}

@@ -1,6 +1,5 @@
 -- What flips of device bits do once an arc was added, told by what they did before.
 use Rattle.std.specs.Prelude.{◌≡◌, ◌≢◌, ℕ, ◌↔◌, ◌⊎◌}
-use Rattle.words.specs.Members.{In}
 use Rattle.patterns.specs.Bits.{DeviceBit, Bits}
 use Rattle.records.specs.Side.{Domain}
 use Rattle.links.specs.Links.{Drives, Below, Feeds, IsClean}

@@ -1,5 +1,5 @@
 -- What holds once arcs were added.
-use Rattle.std.specs.Prelude.{◌≡◌, ℕ, List, [], ◌∷◌, ◌↔◌, ◌⊎◌}
+use Rattle.std.specs.Prelude.{◌≡◌, ℕ, List, ◌↔◌, ◌⊎◌}
 use Rattle.words.specs.Members.{In}
 use Rattle.records.specs.Config.{Config}
 use Rattle.records.specs.Side.{Domain}

@@ -1,10 +1,10 @@
 -- One write more among others, and what the writes of a text name.
-use Rattle.std.proofs.Common.{◌≡◌, ℕ, zero, suc, Bool, true, false, ◌⊎◌, ◌↔◌, inl, inr, List, [], ◌∷◌, ◌++◌, map, flat_map, Option, Some, None, refl, sym, ap, subst, ◌∙◌}
-use Rattle.std.specs.Prelude.{zip, slice_get, find, if◌then◌else◌, not}
+use Rattle.std.proofs.Common.{◌≡◌, ℕ, zero, suc, Bool, true, false, ◌⊎◌, inl, inr, List, [], ◌∷◌, ◌++◌, map, flat_map, Option, Some, None, refl, sym, ap, subst, ◌∙◌}
+use Rattle.std.specs.Prelude.{zip, slice_get, if◌then◌else◌}
 use Rattle.std.specs.Option.{option_and_then, option_map_or}
 use Rattle.std.specs.Str.{bytes_eq}
 use Rattle.words.specs.Members.{In}
-use Rattle.patterns.specs.Bits.{DeviceBit, PatternBit, Bits, device_bit}
+use Rattle.patterns.specs.Bits.{DeviceBit, PatternBit, Bits}
 use Rattle.patterns.specs.Written.{written, opposite}
 use Rattle.records.specs.Database.{WordSetting, EnumSetting, EnumOption}
 use Rattle.records.specs.Grid.{Tile, origin_of}
@@ -16,7 +16,6 @@ use Rattle.fabric.specs.Agree.{HasLine}
 use Rattle.fabric.specs.MuxBits.{bits_named}
 use Rattle.links.proofs.Members.{in_left, in_right, in_either, in_map, of_map, in_flat_map, of_flat_map}
 use Rattle.fabric_laws.proofs.Members.{find_from}
-use Rattle.fabric_laws.proofs.Numbered.{get_in, at_position}
 use Rattle.repair.specs.Plain.{setting_patterns, setting_bits_in, setting_bits, unknown_bit, unknown_bits_in, unknown_bits}
 use Rattle.repair_laws.proofs.Patterns.{is_named, write_off, write_agree, write_named}
 

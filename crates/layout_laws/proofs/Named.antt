@@ -1,28 +1,27 @@
 -- The line of an arc stands for it.
-use Rattle.std.proofs.Common.{◌≡◌, ℕ, Bool, true, false, ◌⊎◌, inl, inr, List, [], ◌∷◌, Option, Some, None, option_map, refl, sym, ap, subst, ◌∙◌, eq-eqb}
-use Rattle.std.specs.Prelude.{slice_get, position, find, ◌==◌, ◌&&◌}
+use Rattle.std.proofs.Common.{◌≡◌, ℕ, Bool, true, false, List, [], Option, Some, None, option_map, refl, sym, ap, ◌∙◌, eq-eqb}
+use Rattle.std.specs.Prelude.{slice_get, find, ◌==◌, ◌&&◌}
 use Rattle.std.specs.Option.{option_and_then, option_map_or}
 use Rattle.std.specs.List.{enumerate_from}
 use Rattle.std.specs.Str.{bytes_eq}
 use Rattle.std.proofs.lemmas.Bool.{and_parts, and_from, eqb-true}
 use Rattle.std.specs.Cmp.Lexicographic.{same_text, other_text}
 use Rattle.words.specs.Members.{In}
-use Rattle.records.specs.Database.{Mux, Arc}
+use Rattle.records.specs.Database.{Mux}
 use Rattle.records.specs.Grid.{Tile, origin_of}
-use Rattle.fabric.specs.Wires.{Wire}
 use Rattle.fabric.specs.Device.{TypeDb, Device, database_of}
 use Rattle.fabric.specs.Graph.{GraphMux, GraphArc, Graph}
 use Rattle.fabric.specs.GraphOf.{number_in, tile_muxes, muxes_of, IsGraph}
 use Rattle.fabric.specs.Image.{tile_named, mux_named, arc_named, arc_of_line}
-use Rattle.fabric_laws.specs.Stands.{ArcStands, MuxStands}
+use Rattle.fabric_laws.specs.Stands.{ArcStands}
 use Rattle.fabric_laws.proofs.Members.{in_filter_map_from, find_from, find_to}
 use Rattle.fabric_laws.proofs.Numbered.{get_in, at_position, position_there}
 use Rattle.fabric_laws.proofs.Graphs.{some_same, arc_of, one_arc}
 use Rattle.fabric_laws.proofs.Standing.{arc_stands, mux_stands}
 use Rattle.repair.specs.Lines.{TileLine, line_of_arc}
-use Rattle.repair_laws.specs.Named.{NoTwo, NamesOnce}
-use Rattle.repair_laws.specs.MoreLines.{StandsForArc}
-use Rattle.repair_laws.proofs.Apart.{made, spread, one_number, numbers_apart}
+use Rattle.layout_laws.specs.Named.{NoTwo, NamesOnce}
+use Rattle.layout_laws.specs.MoreLines.{StandsForArc}
+use Rattle.layout_laws.proofs.Apart.{made, spread, one_number, numbers_apart}
 
 -- names are the same bytes
 pub same_bytes : (xs ys : List ℕ) → bytes_eq xs ys ≡ true → xs ≡ ys
@@ -66,8 +65,8 @@ module _ (device : Device) (g : Graph) (is : IsGraph device g) (once : NamesOnce
   tile_apart number tile = made (λ m n. m.sink ≡ n.sink) SameMux
       (λ mux. option_map (λ sink. let built : GraphMux = record { tile = number; origin = origin_of tile; sink = sink; mux = mux } in built) (number_in g.wires device.profile.rules tile mux.sink))
       (λ x y u v e f s. let p = mux_made number tile x u (number_in g.wires device.profile.rules tile x.sink) e in
-          let q = mux_made number tile y v (number_in g.wires device.profile.rules tile y.sink) f in
-          sym (ap (λ z. z.sink) p.1) ∙ (s.1 ∙ ap (λ z. z.sink) q.1))
+      let q = mux_made number tile y v (number_in g.wires device.profile.rules tile y.sink) f in
+      sym (ap (λ z. z.sink) p.1) ∙ (s.1 ∙ ap (λ z. z.sink) q.1))
       (database_of device.types tile).muxes (sinks_apart tile)
 
   tile_is : (number : ℕ) (tile : Tile) (m : GraphMux) → In (tile_muxes device g.wires number tile) m → m.tile ≡ number
@@ -117,7 +116,7 @@ module _ (device : Device) (g : Graph) (is : IsGraph device g) (once : NamesOnce
           let muxes : q.mux ≡ p.mux = some_same (sym q.of_mux ∙ ap (slice_get g.muxes) mux ∙ p.of_mux) in
           let m = mux_stands device g is p.mux (get_in g.muxes a.mux p.mux p.of_mux) in
           let place : b.place ≡ a.place = one_number (λ x y. x.source ≡ y.source) (λ x y s. sym s) p.mux.mux.arcs (sources_apart m.tile p.mux.mux m.listed) b.place a.place b.arc a.arc
-              (sym (ap (λ x. slice_get x.mux.arcs b.place) muxes) ∙ q.listed) p.listed (same_bytes b.arc.source a.arc.source parts.1) in
+          (sym (ap (λ x. slice_get x.mux.arcs b.place) muxes) ∙ q.listed) p.listed (same_bytes b.arc.source a.arc.source parts.1) in
           one_arc device g.wires a b (arc_of device g.wires a ((is.arcs.members a).0 i)) (arc_of device g.wires b ((is.arcs.members b).0 j)) (record { mux = sym mux; place = sym place })
 
   -- the line of an arc, and that it stands for it
@@ -129,8 +128,8 @@ module _ (device : Device) (g : Graph) (is : IsGraph device g) (once : NamesOnce
         l,
         (
           ap (option_and_then (λ mux. option_map (λ t. let made : TileLine = record { tile = t.name; line = record { sink = mux.mux.sink; source = a.arc.source; line = 0 } } in made) (slice_get g.grid.tiles mux.tile))) p.of_mux
-          ∙ ap (option_map (λ t. let made : TileLine = record { tile = t.name; line = record { sink = p.mux.mux.sink; source = a.arc.source; line = 0 } } in made)) tile,
+              ∙ ap (option_map (λ t. let made : TileLine = record { tile = t.name; line = record { sink = p.mux.mux.sink; source = a.arc.source; line = 0 } } in made)) tile,
           ap (option_and_then (λ t. arc_of_line g t l.line)) (tile_found p.mux.tile p.tile tile)
-          ∙ (ap (option_and_then (λ mux. arc_named g mux a.arc.source)) (mux_found a.mux p.mux p.of_mux) ∙ arc_found a i),
+              ∙ (ap (option_and_then (λ mux. arc_named g mux a.arc.source)) (mux_found a.mux p.mux p.of_mux) ∙ arc_found a i),
         ),
       )

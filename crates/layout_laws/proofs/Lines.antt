@@ -1,18 +1,14 @@
 -- The text with one more arc line: its writes, its arcs, and the image that it makes.
-use Rattle.std.proofs.Common.{◌≡◌, ◌≢◌, ℕ, zero, suc, true, ◌⊎◌, ◌↔◌, inl, inr, List, [], ◌∷◌, ◌++◌, map, flat_map, Option, Some, None, refl, sym, ap, ap₂, subst, ◌∙◌, append_assoc}
+use Rattle.std.proofs.Common.{◌≡◌, ℕ, zero, suc, ◌⊎◌, ◌↔◌, inl, inr, List, [], ◌∷◌, ◌++◌, map, flat_map, Option, Some, None, refl, sym, ap, subst, ◌∙◌, append_assoc}
 use Rattle.std.proofs.lemmas.Grind.{flat_map-append}
 use Rattle.std.specs.Prelude.{slice_get}
 use Rattle.std.specs.Option.{option_and_then, option_map_or}
-use Rattle.std.specs.Ordering.{match_ordering, ordering_then}
-use Rattle.std.specs.declared.cmp.Ordering.{Ordering}
-use Rattle.std.specs.declared.cmp.Ordering.TheVariants.{Less, Equal, Greater}
 use Rattle.std.specs.Str.{bytes_eq}
 use Rattle.words.specs.Members.{In}
-use Rattle.patterns.specs.Bits.{DeviceBit, Bits}
+use Rattle.patterns.specs.Bits.{DeviceBit}
 use Rattle.patterns.specs.Written.{written}
 use Rattle.records.specs.Grid.{Tile, origin_of}
 use Rattle.records.specs.Config.{ArcLine, TileText, Config}
-use Rattle.fabric.specs.Wires.{name_cmp}
 use Rattle.fabric.specs.Settings.{Settings}
 use Rattle.fabric.specs.Device.{Device}
 use Rattle.fabric.specs.Graph.{GraphArc, Graph}
@@ -21,17 +17,16 @@ use Rattle.fabric.specs.Image.{Write, after_writes, no_bits, tile_named, arc_of_
 use Rattle.fabric.specs.Agree.{HasLine, ArcsAgree}
 use Rattle.links.proofs.Members.{in_left, in_right, in_either}
 use Rattle.fabric_laws.proofs.Numbered.{at_position}
-use Rattle.fabric_laws.proofs.Orders.{first_ties, second_ties, name_same}
 use Rattle.fabric_laws.proofs.Agreeing.{line_listed}
 use Rattle.upset.specs.Configured.{Configured}
 use Rattle.repair.specs.Plain.{unknown_bits_in, unknown_bits, IsPlain}
 use Rattle.repair.specs.Added.{with_arc}
-use Rattle.repair.specs.Lines.{TileLine, arc_line_cmp, with_line, text_with_line, text_of_line, texts_with_line, with_texts}
+use Rattle.repair.specs.Lines.{TileLine, text_of_line}
 use Rattle.repair.specs.Usable.{IsRoutable}
-use Rattle.repair_laws.specs.MoreLines.{StandsForArc, IsOneMore, with_arcs_of, HasOneLineMore, in_section, own_section, further}
+use Rattle.layout_laws.specs.MoreLines.{StandsForArc, IsOneMore, with_arcs_of, HasOneLineMore, in_section, own_section, further}
 use Rattle.repair_laws.proofs.Numbers.{IsNumbered, in_mux_bits}
 use Rattle.repair_laws.proofs.Added.{own_bit, none_before}
-use Rattle.repair_laws.proofs.Writes.{among, named_by, LineNames, writes_name}
+use Rattle.layout_laws.proofs.Writes.{among, named_by, writes_name}
 
 -- one more element among others, with elements behind or before
 more_behind : {X : Type 0} {x : X} {xs more : List X} → IsOneMore x xs more → (zs : List X) → IsOneMore x (xs ++ zs) (more ++ zs)

@@ -1,8 +1,7 @@
 -- The line of an arc put in its place, and those of a path.
-use Rattle.std.proofs.Common.{◌≡◌, ℕ, true, false, Bool, ◌⊎◌, ◌↔◌, inl, inr, List, [], ◌∷◌, ◌++◌, Option, Some, None, refl, sym, ap, subst, ◌∙◌}
-use Rattle.std.proofs.lemmas.Bool.{false≢true}
+use Rattle.std.proofs.Common.{◌≡◌, ℕ, ◌⊎◌, ◌↔◌, inl, inr, List, [], ◌∷◌, Option, Some, None, refl, sym, ap, subst, ◌∙◌}
 use Rattle.std.specs.Option.{option_and_then, option_map_or}
-use Rattle.std.specs.Ordering.{match_ordering, ordering_then}
+use Rattle.std.specs.Ordering.{match_ordering}
 use Rattle.std.specs.declared.cmp.Ordering.{Ordering}
 use Rattle.std.specs.declared.cmp.Ordering.TheVariants.{Less, Equal, Greater}
 use Rattle.words.specs.Members.{In}
@@ -19,12 +18,12 @@ use Rattle.repair.specs.Plain.{unknown_bits}
 use Rattle.repair.specs.Added.{with_arc}
 use Rattle.repair.specs.Lines.{TileLine, line_of_arc, arc_line_cmp, with_line, text_with_line, text_of_line, texts_with_line, with_texts, with_arc_line}
 use Rattle.repair.specs.Usable.{IsRoutable}
-use Rattle.repair_laws.specs.Named.{NamesOnce}
-use Rattle.repair_laws.specs.MoreLines.{StandsForArc, IsOneMore, HasOneLineMore, in_section, own_section, further}
+use Rattle.layout_laws.specs.Named.{NamesOnce}
+use Rattle.layout_laws.specs.MoreLines.{StandsForArc, IsOneMore, HasOneLineMore, in_section, own_section, further}
 use Rattle.repair_laws.proofs.Numbers.{IsNumbered}
 use Rattle.repair_laws.proofs.Added.{none_before}
-use Rattle.repair_laws.proofs.Named.{own_line}
-use Rattle.repair_laws.proofs.Lines.{has_line_more, same_unknowns, image_more}
+use Rattle.layout_laws.proofs.Named.{own_line}
+use Rattle.layout_laws.proofs.Lines.{has_line_more, same_unknowns, image_more}
 
 -- a line with the names of another one
 pub record SameLine (line : ArcLine) (lines : List ArcLine) : Type 0 where

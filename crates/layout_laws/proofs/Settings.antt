@@ -1,5 +1,5 @@
 -- Settings read the same where their bits are the same.
-use Rattle.std.proofs.Common.{◌≡◌, ℕ, Bool, ◌⊎◌, inl, inr, List, [], ◌∷◌, ◌++◌, map, filter, flat_map, Option, Some, None, option_map, refl, sym, ap, ap₂, subst, ◌∙◌, cond}
+use Rattle.std.proofs.Common.{◌≡◌, ℕ, Bool, inl, inr, List, [], ◌∷◌, map, filter, flat_map, Option, Some, None, option_map, refl, ap, ap₂, ◌∙◌, cond}
 use Rattle.std.specs.Prelude.{slice_get, zip, length, nat_le, not, ◌&&◌, ◌||◌}
 use Rattle.std.specs.List.{list_all}
 use Rattle.std.specs.Option.{option_and_then}
@@ -9,18 +9,17 @@ use Rattle.patterns.specs.Bits.{DeviceBit, PatternBit, Bits}
 use Rattle.patterns.specs.Fits.{fits}
 use Rattle.records.specs.Database.{WordSetting, EnumSetting}
 use Rattle.records.specs.Grid.{Tile, origin_of}
-use Rattle.fabric.specs.Chosen.{is_longest, is_best_fit, best_fits}
+use Rattle.fabric.specs.Chosen.{is_best_fit, best_fits}
 use Rattle.fabric.specs.Settings.{Settings, word_named, enum_named, word_bits, value_of_tied, enum_value}
 use Rattle.fabric.specs.Values.{word_at, value_at}
 use Rattle.fabric.specs.Graph.{GraphArc, Graph}
 use Rattle.fabric.specs.MuxBits.{bits_named}
 use Rattle.links.proofs.Members.{in_left, in_right, in_map, in_flat_map}
 use Rattle.fabric_laws.proofs.Members.{find_from}
-use Rattle.repair.specs.Plain.{setting_patterns, setting_bits_in, setting_bits, IsPlain}
+use Rattle.repair.specs.Plain.{setting_patterns, setting_bits_in, setting_bits}
 use Rattle.repair.specs.Added.{with_arc, with_arcs}
 use Rattle.repair_laws.proofs.Patterns.{fits_agree, write_off}
-use Rattle.repair_laws.proofs.Numbers.{in_mux_bits}
-use Rattle.repair_laws.proofs.Writes.{zip_at}
+use Rattle.layout_laws.proofs.Writes.{zip_at}
 
 map_same : {X Y : Type 0} (f h : X → Y) (xs : List X) → ((x : X) → In xs x → f x ≡ h x) → map f xs ≡ map h xs
 map_same f h [] e = refl

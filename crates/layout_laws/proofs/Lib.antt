@@ -1,0 +1,9 @@
+pub mod Writes
+pub mod Lines
+pub mod Apart
+pub mod Named
+pub mod Inserted
+pub mod Settings
+pub mod TextPath
+pub mod Many
+pub mod Rest

@@ -1,0 +1,4 @@
+pub mod MoreLines
+pub mod Named
+pub mod PathsKept
+pub mod RestKept
