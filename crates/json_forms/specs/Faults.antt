@@ -1,0 +1,9 @@
+-- Why a JSON file isn't read. (Our own.)
+use Rattle.std.specs.Prelude.{ℕ, List}
+use Rattle.records.specs.Limits.{Limit}
+
+-- no JSON; a member, an element or a tile of another shape, by its key; a limit that is passed
+pub data FormFault : Type 0 where
+  NotJson : FormFault
+  BadShape : List ℕ → FormFault
+  TooLarge : Limit → FormFault

@@ -1,0 +1,14 @@
+pub mod Options
+pub mod Results
+pub mod Each
+pub mod Values
+pub mod Faults
+pub mod Places
+pub mod Tiles
+pub mod Grid
+pub mod MiniGrid
+pub mod Parts
+pub mod Choices
+pub mod Kinds
+pub mod KindRules
+pub mod Profile

@@ -1,0 +1,68 @@
+//! Lists of values that have one form.
+
+ghost use Rattle.serde_json.specs.Data.{Data};
+ghost use Rattle.serde_json.specs.View.{view};
+ghost use Rattle.json_forms.specs.Parts.{list_of, pair_in, triple_in};
+ghost use Rattle.json_values.specs.Reads.{Reads};
+
+use crate::{FormError, elements, name};
+use rr_ids::{List, Name};
+use serde_json::Value;
+use std::alloc::Global;
+
+/// A type whose values stand for JSON values of a form.
+pub trait FromJson: Drop {
+    ghost use Rattle.std.specs.Prelude.{Option};
+
+    /// What a JSON value stands for.
+    ghost value_in: { Data → Option Self };
+
+    /// What a JSON value stands for; `Unfit` where it has another form.
+    fn from_json(alloc: Global, value: &Value) -> Result<Self, FormError>
+    where
+        Self: Sized,
+        ensures { Reads (λ it. it) result (value_in (view value.now)) };
+}
+
+impl FromJson for Name {
+    ghost use Rattle.json_forms.specs.Values.{name_in};
+
+    ghost value_in = { name_in };
+
+    fn from_json(alloc: Global, value: &Value) -> Result<Name, FormError> {
+        name(alloc, value)
+    }
+}
+
+/// The list of what the elements of a value stand for; `Unfit` where it is no list, or one of its elements has
+/// another form.
+pub fn list<T: FromJson>(alloc: Global, value: &Value) -> Result<List<T>, FormError>
+    ensures { Reads (λ it. it) result (list_of T.value_in (view value.now)) }
+{
+    let mut list = List::new(alloc);
+    for element in elements(value)? {
+        list.push(T::from_json(alloc, element)?)?;
+    }
+    Ok(list)
+}
+
+/// The elements of a list of two.
+pub fn pair(value: &Value) -> Result<(&Value, &Value), FormError>
+    ensures { Reads (λ two. (view two.0.now, view two.1.now)) result (pair_in (view value.now)) }
+{
+    match elements(value)? {
+        [first, second] => Ok((first, second)),
+        _ => Err(FormError::Unfit),
+    }
+}
+
+/// The elements of a list of three.
+pub fn triple(value: &Value) -> Result<(&Value, &Value, &Value), FormError>
+    ensures { Reads (λ three. (view three.0.now, view three.1.now, view three.2.now)) result
+        (triple_in (view value.now)) }
+{
+    match elements(value)? {
+        [first, second, third] => Ok((first, second, third)),
+        _ => Err(FormError::Unfit),
+    }
+}

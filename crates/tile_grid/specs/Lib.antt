@@ -1,0 +1,4 @@
+pub mod Small
+pub mod Faults
+pub mod Capped
+pub mod Placed

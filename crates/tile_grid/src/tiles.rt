@@ -1,0 +1,100 @@
+//! Tiles.
+
+ghost use Rattle.std.specs.Prelude.{◌≡◌, ◌≤◌, IfOk};
+ghost use Rattle.serde_json.specs.View.{view};
+ghost use Rattle.json_forms.specs.Tiles.{most_in_tile, tile_number_in, tile_in, tile_of};
+ghost use Rattle.json_forms.specs.Places.{place_of};
+ghost use Rattle.json_values.specs.Reads.{Reads};
+ghost use Rattle.words.specs.OrMemory.{OrMemory};
+ghost use Rattle.tile_grid.specs.Placed.{with_place, place_or_fault};
+ghost use Rattle.tile_grid.specs.Faults.{fault_of};
+
+use crate::{GridError, places};
+use json_values::FormError;
+use rr_ids::{Limit, Name, Text};
+use serde_json::Value;
+use std::alloc::Global;
+use std::marker::Model;
+
+/// A tile of a grid: its name, its type, its row and column where its name has them, its number of frames
+/// (`cols`) and of bits in a frame (`rows`), and the first frame and bit. The four numbers are at most
+/// 2,147,483,647. Contracts see the record of the fields.
+#[derive(Debug, Drop)]
+pub struct Tile {
+    pub name: Name,
+    pub kind: Name,
+    pub place: Option<(u8, u8)>,
+    pub cols: u32,
+    pub rows: u32,
+    pub start_frame: u32,
+    pub start_bit: u32,
+}
+
+impl Model for Tile {
+    ghost use Rattle.records.specs.Grid.{Tile as Record};
+    ghost use Rattle.tile_grid.specs.Small.{IsSmall};
+
+    ghost Value = { Record };
+
+    ghost view = { λ t. record { name = t.name; kind = t.kind; place = t.place; cols = t.cols; rows = t.rows; start_frame = t.start_frame; start_bit = t.start_bit } };
+
+    ghost invariant = { λ t. IsSmall t.cols t.rows t.start_frame t.start_bit };
+}
+
+// The greatest number of a tile.
+const MOST_IN_TILE: u32 = 2_147_483_647;
+
+// A number of a tile.
+fn number(tile: &Value, name: &str) -> Result<u32, FormError>
+    ensures number { Reads (λ n. n) result (tile_number_in name.now (view tile.now)) }
+    ensures small { IfOk result (λ n. n ≤ most_in_tile) }
+{
+    json_values::whole(json_values::member(tile, name)?, MOST_IN_TILE)
+}
+
+// The tile that a member of the file is, but for its place.
+#[tactic(auto, unfolding(json_forms::specs::Tiles::tile_in))]
+fn unplaced(alloc: Global, name: &str, tile: &Value) -> Result<Tile, FormError>
+    ensures { Reads (with_place (place_of name.now)) result
+        (tile_in (record { name = name.now; value = view tile.now })) }
+{
+    Ok(Tile {
+        name: json_values::named(alloc, name.as_bytes())?,
+        kind: json_values::name(alloc, json_values::member(tile, "type")?)?,
+        place: None,
+        cols: number(tile, "cols")?,
+        rows: number(tile, "rows")?,
+        start_frame: number(tile, "start_frame")?,
+        start_bit: number(tile, "start_bit")?,
+    })
+}
+
+// The place of a tile by its name.
+fn place(name: &str) -> Result<Option<(u8, u8)>, GridError>
+    ensures { OrMemory (λ place. place) fault_of result (place_or_fault (place_of name.now)) }
+{
+    let Some((row, col)) = places::place_of(name.as_bytes()) else {
+        return Ok(None);
+    };
+    match (u8::try_from(row), u8::try_from(col)) {
+        (Ok(row), Ok(col)) => Ok(Some((row, col))),
+        _ => Err(GridError::TooLarge(Limit::Place)),
+    }
+}
+
+/// The tile that a member of the file is read as.
+#[tactic(auto, unfolding(json_forms::specs::Tiles::tile_of))]
+pub(crate) fn read_tile(alloc: Global, name: &str, value: &Value) -> Result<Tile, GridError>
+    ensures { OrMemory (λ tile. tile) fault_of result
+        (tile_of (record { name = name.now; value = view value.now })) }
+{
+    let mut tile = match unplaced(alloc, name, value) {
+        Ok(tile) => tile,
+        Err(FormError::Unfit) => {
+            return Err(GridError::BadShape(Text::new(alloc, name.as_bytes())?));
+        }
+        Err(FormError::Memory) => return Err(GridError::Memory),
+    };
+    tile.place = place(name)?;
+    Ok(tile)
+}
