@@ -32,6 +32,10 @@ const TIE: &str = ".mux W\nS1 F0B0\nS2 F0B0\n";
 
 const MUST_BE_0: &str = ".mux W\nS1 -\nS2 F0B0 !F0B1\n";
 
+// A record of each kind.
+const WHOLE: &str = ".mux W\nS1 F0B0\n.config K 01\nF1B0\n-\n.config_enum E ON\nON F2B0\nOFF -\n\
+    .fixed_conn V W\n.mux T\nS2 !F1B0\n";
+
 const TWO: &str = ".mux W\r\nS1 F0B0 # one\n\n.mux V\n";
 
 #[test]
@@ -53,6 +57,7 @@ fn answers(rt: HostRuntime) -> Result<(), Fail> {
         (MUST_BE_0, "drivers m.db F0B0", "W S2\n", Status::Done),
         (MUST_BE_0, "drivers m.db F0B0 F0B1", "W S1\n", Status::Done),
         (TWO, "drivers m.db F0B0", "W S1\nV -\n", Status::Done),
+        (WHOLE, "drivers m.db F0B0", "W S1\nT S2\n", Status::Done),
         ("", "drivers m.db", "", Status::Done),
         ("# .mux W\n \t\n", "drivers m.db", "", Status::Done),
         // The words.
