@@ -1,0 +1,3 @@
+pub mod BadBits
+pub mod Reported
+pub mod Outcomes

@@ -1,0 +1,3 @@
+//! What the commands over a whole design answer: a status, a text and the files that are written, by the state of the
+//! input. There are definitions only.
+#![tactic(auto)]

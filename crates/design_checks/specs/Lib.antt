@@ -1,0 +1,9 @@
+pub mod Checks
+pub mod GraphChecks
+pub mod LineChecks
+pub mod RoutingChecks
+pub mod CellChecks
+pub mod PinChecks
+pub mod MaskChecks
+pub mod CopyChecks
+pub mod DesignChecks

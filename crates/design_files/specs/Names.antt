@@ -1,0 +1,30 @@
+-- Under which names the files of a design stand, and how long they may be. (The folder's layout is after Project
+-- Trellis; the limits are our own.)
+use Rattle.std.specs.Prelude.{ℕ, ◌*◌, List, ◌++◌, map, codes}
+use Rattle.records.specs.Grid.{Grid}
+use Rattle.config_grammar.specs.Ordered.{in_order_once}
+
+abbrev pub mebibytes : ℕ → ℕ
+mebibytes n = n * 1024 * 1024
+
+-- the most bytes of a configuration; of a grid, a profile and a side file; of a database
+abbrev pub most_config_bytes : ℕ
+most_config_bytes = mebibytes 256
+
+abbrev pub most_json_bytes : ℕ
+most_json_bytes = mebibytes 64
+
+abbrev pub most_database_bytes : ℕ
+most_database_bytes = mebibytes 16
+
+-- the grid of a device in a family's folder
+abbrev pub grid_name : List ℕ → List ℕ → List ℕ
+grid_name family device = family ++ codes "/" ++ device ++ codes "/tilegrid.json"
+
+-- the database of a tile type
+abbrev pub database_name : List ℕ → List ℕ → List ℕ
+database_name family kind = family ++ codes "/tiledata/" ++ kind ++ codes "/bits.db"
+
+-- the tile types of a grid in byte order, each once
+abbrev pub types_of : Grid → List (List ℕ)
+types_of grid = in_order_once (λ kind. kind) (map (λ tile. tile.kind) grid.tiles)
