@@ -1,5 +1,5 @@
 -- What is refused of the cells of an image. (Our own.)
-use Rattle.std.specs.Prelude.{ℕ, List, Option, option_map}
+use Rattle.std.specs.Prelude.{Option, option_map}
 use Rattle.patterns.specs.Bits.{Bits}
 use Rattle.records.specs.Profile.{Profile}
 use Rattle.records.specs.Side.{Side}

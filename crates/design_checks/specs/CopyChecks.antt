@@ -1,6 +1,6 @@
 -- Copies that aren't alike, and where they differ. A copy that isn't read isn't compared. (After majority voting; what
 -- is named is our own.)
-use Rattle.std.specs.Prelude.{◌≡◌, ◌≢◌, ℕ, Bool, true, false, List, [], ◌∷◌, ◌++◌, map, codes, ◌↔◌, ◌⊎◌, if◌then◌else◌}
+use Rattle.std.specs.Prelude.{◌≡◌, ℕ, Bool, true, false, List, [], ◌∷◌, ◌++◌, map, codes, ◌↔◌, if◌then◌else◌}
 use Rattle.std.specs.declared.cmp.Ordering.{Ordering}
 use Rattle.std.specs.declared.cmp.Ordering.TheVariants.{Less, Equal, Greater}
 use Rattle.std.specs.Cmp.Lexicographic.{slice_cmp}
@@ -10,7 +10,7 @@ use Rattle.fabric.specs.InOrder.{IsRising}
 use Rattle.circuit.specs.Cells.{TableCell, RegisterCell, PadCell}
 use Rattle.circuit.specs.Parts.{PartKind, Table, Register, Pad, PartRef, Source, OfTable, OfRegister, sources, output_pads}
 use Rattle.circuit.specs.Pins.{Pin, table_pins, pad_pin}
-use Rattle.circuit.specs.Triples.{PartTriple, IsEntry, names_of, triple_of}
+use Rattle.circuit.specs.Triples.{PartTriple, IsEntry, triple_of}
 use Rattle.circuit.specs.Circuits.{Circuit, Connects, IsRead}
 use Rattle.circuit.specs.Worlds.{table_output}
 use Rattle.circuit.specs.Tables.{Assigned}

@@ -1,11 +1,9 @@
 -- All checks of a design in their order, the first that fails, and what is accepted. (Our own.)
-use Rattle.std.specs.Prelude.{◌≡◌, List, [], Ok, Err, ◌⊎◌}
-use Rattle.patterns.specs.Bits.{Bits}
+use Rattle.std.specs.Prelude.{◌≡◌, [], Ok, Err}
 use Rattle.records.specs.Side.{Side}
 use Rattle.fabric.specs.Graph.{Graph}
 use Rattle.fabric.specs.GraphOf.{IsGraph}
 use Rattle.fabric.specs.Image.{image_of}
-use Rattle.fabric.specs.Links.{routing_of}
 use Rattle.circuit.specs.Cells.{Cells}
 use Rattle.circuit.specs.Circuits.{Circuit}
 use Rattle.cells.specs.CellsOf.{cells_of}

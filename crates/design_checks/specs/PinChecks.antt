@@ -1,6 +1,6 @@
 -- Pins and what feeds them: modelled outputs, loops of tables, open pins, clocks and foreign domains. Parts and pins
 -- are named by the least that is faulty. (Our own.)
-use Rattle.std.specs.Prelude.{◌≡◌, ◌≢◌, ℕ, List, Some, slice_get, ◌⊎◌}
+use Rattle.std.specs.Prelude.{◌≡◌, ◌≢◌, ℕ, List, Some, slice_get}
 use Rattle.words.specs.Members.{In}
 use Rattle.records.specs.Side.{Domain}
 use Rattle.links.specs.Links.{Reaches, Feeds, Fed}

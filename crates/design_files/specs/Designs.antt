@@ -1,6 +1,6 @@
 -- A design as its files give it: the configuration first, then the grid of the device that it names, the profile,
 -- the side file, and the databases of the grid's tile types. (Our own.)
-use Rattle.std.specs.Prelude.{ℕ, List, [], ◌∷◌, Option, Some, None, Result, Ok, Err}
+use Rattle.std.specs.Prelude.{ℕ, List, [], ◌∷◌, Option, Some, None, Result, Ok}
 use Rattle.records.specs.Database.{TileDb}
 use Rattle.records.specs.Side.{Side}
 use Rattle.records.specs.Config.{Config}

@@ -1,6 +1,6 @@
 -- One file: it has to be there and short enough, and then its bytes are read or have a fault. (Our own.)
-use Rattle.std.specs.Prelude.{ℕ, List, [], length, Option, Some, None, Result, Ok, Err, nat_lt, if◌then◌else◌}
-use Rattle.records.specs.Limits.{Limit, limit_name}
+use Rattle.std.specs.Prelude.{ℕ, List, length, Option, Some, None, Result, Ok, Err, nat_lt, if◌then◌else◌}
+use Rattle.records.specs.Limits.{limit_name}
 use Rattle.records.specs.Database.{TileDb}
 use Rattle.records.specs.Grid.{Grid}
 use Rattle.records.specs.Profile.{Profile}

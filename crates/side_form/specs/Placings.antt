@@ -1,5 +1,5 @@
 -- The elements of the lists of a side file, each by its form. (Our own.)
-use Rattle.std.specs.Prelude.{ℕ, List, [], ◌∷◌, Option, Some, None, if◌then◌else◌, ◌==◌}
+use Rattle.std.specs.Prelude.{List, [], ◌∷◌, Option, Some, None, if◌then◌else◌, ◌==◌}
 use Rattle.serde_json.specs.Data.{Data}
 use Rattle.records.specs.Side.{Domain, D0, D1, D2, Placed, Triple, Voter}
 use Rattle.json_forms.specs.Options.{◌>>=◌}

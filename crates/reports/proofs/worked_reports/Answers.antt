@@ -4,4 +4,4 @@ use Rattle.reports.proofs.worked_reports.Goals as goal
 
 pub returns : goal.returns
 unfolding digits
-returns c = record { checked = refl; safe = refl; unsafe_one = refl; hardened = refl; no_route = refl; moved = refl }
+returns c = record { checked = refl; safe = refl; unsafe_one = refl; hardened = refl; no_route = refl; moved = refl; standing = refl; no_site = refl; cut_file = refl; run = refl }
