@@ -1,3 +1,4 @@
 pub mod BadBits
 pub mod Reported
 pub mod Outcomes
+pub mod Headline

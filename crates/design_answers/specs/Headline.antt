@@ -1,0 +1,34 @@
+-- What a hardened design keeps of the one that was read. (The aim is RoRA's; the form is our own.)
+use Rattle.std.specs.Prelude.{◌≡◌, ℕ, ◌<◌, Bool}
+use Rattle.words.specs.Members.{In}
+use Rattle.records.specs.Side.{Domain, Triple}
+use Rattle.circuit.specs.Cells.{PadCell}
+use Rattle.circuit.specs.Parts.{output_pads}
+use Rattle.circuit.specs.Triples.{PartTriple}
+use Rattle.circuit.specs.Circuits.{Circuit}
+use Rattle.circuit.specs.Worlds.{World}
+use Rattle.circuit.specs.Faults.{Fault, no_fault}
+use Rattle.circuit.specs.Runs.{IsRun}
+use Rattle.circuit.specs.Right.{KeepsOutside, KeepsTwo}
+use Rattle.circuit.specs.Designs.{SameSide}
+use Rattle.upset.specs.Configured.{Configured, circuit_of}
+use Rattle.upset.specs.Safe.{IsMuxFault}
+
+-- A circuit gives the outputs of another one: from every common start, on every input and for every number of cycles,
+-- every run of the one and every run of the other show in each cycle the same at each output pad.
+abbrev pub GivesOutputsOf : Circuit → Circuit → Type 0
+GivesOutputsOf c e = (start : PartTriple → Bool) (input : ℕ → Triple → Bool) (n : ℕ) (v w : ℕ → World) → IsRun c no_fault start input n v → IsRun e no_fault start input n w
+    → (t : ℕ) → t < n → (p : PadCell) → In (output_pads c.cells) p → (v t).shown p.name ≡ (w t).shown p.name
+
+-- After the flip of any one routing-mux bit, whatever the disturbed wires and the touched cells carry in each cycle,
+-- there is one domain outside which each output pad shows in every cycle what the circuit c shows undisturbed, so that
+-- at least two of each three outputs do.
+abbrev pub KeepsOutputsOf : Circuit → Configured → Type 0
+KeepsOutputsOf c k = (f : Fault) → IsMuxFault k f → ((d : Domain) × KeepsOutside c (circuit_of k) f d) × KeepsTwo c (circuit_of k) f
+
+-- What was written hardens what was read: the side files are the same but for tiles and kinds, the circuit gives the
+-- outputs of the one that was read, and after any one flip at least two of each three outputs keep them forever.
+pub record Hardens (read written : Configured) : Type 0 where
+  pub side : SameSide read.side written.side
+  pub outputs : GivesOutputsOf (circuit_of read) (circuit_of written)
+  pub masked : KeepsOutputsOf (circuit_of read) written
