@@ -1,0 +1,6 @@
+pub mod Orders
+pub mod WithoutLines
+pub mod Starts
+pub mod Outcomes
+pub mod Steps
+pub mod Runs
