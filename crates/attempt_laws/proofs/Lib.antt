@@ -4,3 +4,4 @@ pub mod Starts
 pub mod Outcomes
 pub mod Steps
 pub mod Runs
+pub mod SafeDesign

@@ -2,7 +2,7 @@
 //! a function with an empty body.
 #![tactic(auto)]
 
-ghost use Rattle.attempts.specs.Attempts.{Answer, IsAnswer};
+ghost use Rattle.attempts.specs.Attempts.{Answer, AttemptComplete, Ended, IsAnswer, Routed};
 ghost use Rattle.attempts.specs.Candidates.{IsFirst, Step};
 ghost use Rattle.attempts.specs.Jobs.{Job, State};
 ghost use Rattle.attempts.specs.Starts.{IsStart};
@@ -10,8 +10,10 @@ ghost use Rattle.attempts.specs.Turns.{ComesOut, Outcome};
 ghost use Rattle.circuit.specs.Circuits.{Circuit, Connection};
 ghost use Rattle.fabric.specs.Device.{Device};
 ghost use Rattle.fabric.specs.GraphOf.{IsGraph};
-ghost use Rattle.repair.specs.Layouts.{Layout};
-ghost use Rattle.std.specs.Prelude.{List, ◌≡◌, ℕ};
+ghost use Rattle.repair.specs.Layouts.{Layout, configured};
+ghost use Rattle.repair.specs.Nets.{RipUnsafe};
+ghost use Rattle.std.specs.Prelude.{List, [], ◌∷◌, ◌≡◌, ℕ};
+ghost use Rattle.upset.specs.Safe.{IsSafe};
 
 /// A job has at most one start.
 pub fn one_start()
@@ -27,6 +29,11 @@ pub fn one_outcome()
 /// A slice has at most one step to its first candidate, with one layout and one list of ripped connections behind it.
 pub fn one_step()
     ensures { (job : Job) (state : State) (slice : List ℕ) (s t : Step) → IsFirst job state slice s → IsFirst job state slice t → s ≡ t }
+{}
+
+/// Where only nets are ripped that bad bits reach, a safe design is answered as it is after one attempt.
+pub fn safe_design_stays()
+    ensures { (job : Job) → job.rip ≡ RipUnsafe → IsSafe (configured job.design) → IsAnswer job (Ended (AttemptComplete ∷ []) (Routed job.design 0)) }
 {}
 
 /// A job has at most one answer: its log and how it ends.
