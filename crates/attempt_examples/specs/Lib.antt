@@ -1,0 +1,2 @@
+pub mod SafeToggle
+pub mod MovedToggle

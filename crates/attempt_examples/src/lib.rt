@@ -1,0 +1,29 @@
+//! Worked examples of the attempts of a router, each the contract of a function with an empty body.
+#![tactic(auto)]
+
+ghost use Rattle.attempt_examples.specs.MovedToggle.{at_sites, moved_toggle, moved_toggle_side, third_moves};
+ghost use Rattle.attempt_examples.specs.SafeToggle.{toggle_job};
+ghost use Rattle.attempts.specs.Attempts.{AttemptComplete, Ended, IsAnswer, Routed};
+ghost use Rattle.attempts.specs.Moves.{moved_config, moved_side, renamed};
+ghost use Rattle.fabric_laws.specs.PlainGraph.{graph_of};
+ghost use Rattle.mini.specs.MiniA.{mini_a};
+ghost use Rattle.mini.specs.Toggle.{toggle, toggle_side};
+ghost use Rattle.std.specs.Prelude.{codes, None, Some, [], ◌∷◌, ◌≡◌};
+
+/// The toggle is safe, so one attempt is complete and leaves it as it is.
+pub fn safe_toggle_stays()
+    ensures { IsAnswer toggle_job (Ended (AttemptComplete ∷ []) (Routed toggle_job.design 0)) }
+{}
+
+/// A setting goes to the one at its first position among those of the new kind.
+pub fn settings_go_by_position()
+    ensures first { renamed (codes "S0.K" ∷ codes "S0.MODE" ∷ codes "S0.K" ∷ []) (codes "S1.K" ∷ codes "S1.MODE" ∷ codes "S2.K" ∷ []) (codes "S0.K") ≡ Some (codes "S1.K") }
+    ensures second { renamed (codes "S0.K" ∷ codes "S0.MODE" ∷ []) (codes "S1.K" ∷ codes "S1.MODE" ∷ []) (codes "S0.MODE") ≡ Some (codes "S1.MODE") }
+    ensures none { renamed (codes "S0.K" ∷ codes "S0.MODE" ∷ []) (codes "S1.K" ∷ codes "S1.MODE" ∷ []) (codes "S1.K") ≡ None }
+{}
+
+/// The third slice of the toggle moves to the empty tile beside it: its word goes to a section of its own there.
+pub fn slice_of_toggle_moves()
+    ensures text { at_sites (graph_of mini_a) third_moves (λ old new. moved_config old new toggle) ≡ Some moved_toggle }
+    ensures side { moved_side third_moves toggle_side ≡ moved_toggle_side }
+{}
