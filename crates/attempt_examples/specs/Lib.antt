@@ -1,2 +1,3 @@
 pub mod SafeToggle
 pub mod MovedToggle
+pub mod TwoTiles

@@ -3,7 +3,9 @@
 
 ghost use Rattle.attempt_examples.specs.MovedToggle.{at_sites, moved_toggle, moved_toggle_side, third_moves};
 ghost use Rattle.attempt_examples.specs.SafeToggle.{toggle_job};
+ghost use Rattle.attempt_examples.specs.TwoTiles.{job, state, step};
 ghost use Rattle.attempts.specs.Attempts.{AttemptComplete, Ended, IsAnswer, Routed};
+ghost use Rattle.attempts.specs.Candidates.{IsCandidate, IsFirst};
 ghost use Rattle.attempts.specs.Moves.{moved_config, moved_side, renamed};
 ghost use Rattle.fabric_laws.specs.PlainGraph.{graph_of};
 ghost use Rattle.mini.specs.MiniA.{mini_a};
@@ -26,4 +28,11 @@ pub fn settings_go_by_position()
 pub fn slice_of_toggle_moves()
     ensures text { at_sites (graph_of mini_a) third_moves (λ old new. moved_config old new toggle) ≡ Some moved_toggle }
     ensures side { moved_side third_moves toggle_side ≡ moved_toggle_side }
+{}
+
+/// On a small device a slice has a first candidate: the other tile for its kind. The move takes its word there, removes
+/// the route of its register and the clock line at its old pin, and rips its three connections.
+pub fn slice_has_a_first_candidate()
+    ensures candidate { IsCandidate job state step }
+    ensures first { IsFirst job state (codes "a") step }
 {}

@@ -3,14 +3,14 @@
 use Rattle.std.proofs.Common.{◌≡◌, ℕ, List, [], ◌∷◌, refl, subst, inl, inr}
 use Rattle.records.specs.Config.{ArcLine, TileText, Config}
 use Rattle.fabric.specs.Device.{Device}
-use Rattle.circuit.specs.Circuits.{Connection}
+use Rattle.circuit.specs.Parts.{PartRef}
 use Rattle.upset.specs.Configured.{Configured}
 use Rattle.upset.specs.Safe.{IsSafe}
 use Rattle.repair.specs.Lines.{WithoutLines, no_lines, keeps, TextsWithout, no_texts, next_text, WithoutArcLines}
 use Rattle.repair.specs.Nets.{Rip, RipUnsafe, IsReached, IsChosenToRip, IsRipped}
 use Rattle.repair.specs.Layouts.{configured}
-use Rattle.attempts.specs.Jobs.{Job, State}
-use Rattle.attempts.specs.Starts.{IsRippedAtStart, IsStart}
+use Rattle.attempts.specs.Jobs.{Job, State, IsRippedPart}
+use Rattle.attempts.specs.Starts.{IsStart}
 use Rattle.attempts.specs.Attempts.{AttemptComplete, Routed, completes, Ended, IsAnswer, ended}
 
 -- where nothing is dropped a text stays
@@ -31,28 +31,27 @@ none_ripped : (rip : Rip) (device : Device) (k : Configured) (net : ℕ) → rip
 none_ripped rip device k net unsafe safe r = let reached : IsReached k net = subst (λ which. IsChosenToRip which k net) unsafe r.chosen in safe reached.bit reached.mux_bit reached.bad
 
 module _ (job : Job) (unsafe : job.rip ≡ RipUnsafe) (safe : IsSafe (configured job.design)) where
-  first_state : State
+  abbrev first_state : State
   first_state = record { layout = job.design; order = []; rims = []; moved = []; sides = job.design.side ∷ [] }
 
-  none_at_start : (x : Connection) → IsRippedAtStart job x → ⊥
-  none_at_start x r = elim r.1 [
+  -- nor is the net of a part, before a slice moves
+  pub no_part_ripped : (part : PartRef) → IsRippedPart job [] part → ⊥
+  no_part_ripped part r = elim r [
     | inl first ↦ none_ripped job.rip job.device (configured job.design) first.source.out unsafe safe first.ripped
     | inr later ↦ absurd later.1.0
   ]
 
   starts : IsStart job first_state
-  unfolding first_state
   starts = record {
     graph = refl;
     text = whole_text _ (λ tile line dropped. none_ripped job.rip job.device (configured job.design) dropped.net unsafe safe dropped.ripped) job.design.config;
     cells = refl;
     side = refl;
-    order = record { rising = tt; members = λ x. ((λ i. absurd i), (λ r. none_at_start x r)) };
+    order = record { rising = tt; members = λ x. ((λ i. absurd i), (λ r. no_part_ripped x.source r.1)) };
     no_rims = refl;
     none_moved = refl;
     sides = refl;
   }
 
   pub safe_design_stays : IsAnswer job (Ended (AttemptComplete ∷ []) (Routed job.design 0))
-  unfolding first_state
   safe_design_stays = ended first_state starts safe (completes job.design refl)
