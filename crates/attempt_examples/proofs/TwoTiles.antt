@@ -38,13 +38,13 @@ use Rattle.attempt_examples.proofs.Tests.{connections, listed_connects, connects
 
 -- The device's wires are, by number: A, CK, F and Q of the first tile, those of the second, KI, and the clock G_CK.
 
-abbrev slice : List ℕ
+abbrev pub slice : List ℕ
 slice = codes "a"
 
-abbrev table_source : Source
+abbrev pub table_source : Source
 table_source = record { part = table; domain = D0; kind = OfTable (record { word = 1; pins = 0 ∷ []; out = 2 }); out = 2 }
 
-abbrev register_source : Source
+abbrev pub register_source : Source
 register_source = record {
   part = register;
   domain = D0;
@@ -52,7 +52,7 @@ register_source = record {
   out = 3;
 }
 
-abbrev clock_source : Source
+abbrev pub clock_source : Source
 clock_source = record { part = clock; domain = D0; kind = OfClock; out = 8 }
 
 abbrev clock_pin : Pin
@@ -62,10 +62,10 @@ the_sources : sources design.cells ≡ table_source ∷ register_source ∷ cloc
 the_sources = refl
 
 -- both layouts are clean and safe
-outputs_listed : (y : Layout) → list_all (λ s. has y.graph.outputs s.out) (sources y.cells) ≡ true → OutputsListed (configured y)
+pub outputs_listed : (y : Layout) → list_all (λ s. has y.graph.outputs s.out) (sources y.cells) ≡ true → OutputsListed (configured y)
 outputs_listed y h s i = in_has y.graph.outputs s.out (all_from (λ x. has y.graph.outputs x.out) (sources y.cells) h s i)
 
-design_clean : IsClean (routing (configured design))
+pub design_clean : IsClean (routing (configured design))
 design_clean = clean_once (routing (configured design)) refl
 
 moved_clean : IsClean (routing (configured moved))
@@ -84,10 +84,10 @@ read_listed = refl
 moved_listed : connections (circuit_of (configured moved)) ≡ to_data ∷ []
 moved_listed = refl
 
-read_has : (x : Connection) → In step.ripped x → IsConnection (read_of job) x
+pub read_has : (x : Connection) → In step.ripped x → IsConnection (read_of job) x
 read_has x i = listed_connects (read_of job) x i
 
-read_in : (x : Connection) → IsConnection (read_of job) x → In step.ripped x
+pub read_in : (x : Connection) → IsConnection (read_of job) x → In step.ripped x
 read_in x h = connects_listed (read_of job) x h
 
 moved_in : (x : Connection) → IsConnection (circuit_of (configured moved)) x → In (to_data ∷ []) x
@@ -104,7 +104,7 @@ register_ripped : IsRippedBy job slice register
 register_ripped = record { source = register_source; listed = inr (inl refl); is = refl; touched = inl refl; no_clock = λ e. let no : ⊥ = cc in no }
 
 -- the slice and the pad have different names
-no_clock_part : slice ≡ clock.cell → ⊥
+pub no_clock_part : slice ≡ clock.cell → ⊥
 no_clock_part e = names_differ slice clock.cell refl e
 
 clock_stays : IsRippedBy job slice clock → ⊥
@@ -117,11 +117,10 @@ clock_stays r = elim r.listed [
 ]
 
 -- the two lines of the slice's tile are removed: one of the register's net, and the clock line
-table_arc : GraphArc
+abbrev pub table_arc : GraphArc
 table_arc = record { mux = 0; place = 0; source = 3; sink = 0; origin = record { frame = 0; bit = 0 }; arc = record { source = codes "Q"; bits = bit 0 ∷ [] } }
 
 table_line : IsRemoved job state slice first_tile.name (line (codes "A") (codes "Q"))
-unfolding table_arc
 table_line = inl (record {
   arc = table_arc;
   named = refl;
@@ -131,11 +130,10 @@ table_line = inl (record {
   feeds = feed (routing (configured design)) 3 0 refl;
 })
 
-clock_arc : GraphArc
+abbrev pub clock_arc : GraphArc
 clock_arc = record { mux = 1; place = 0; source = 9; sink = 1; origin = record { frame = 0; bit = 0 }; arc = record { source = codes "G_CK"; bits = bit 1 ∷ [] } }
 
 clock_line : IsClockLine state slice first_tile.name (line (codes "CK") (codes "G_CK"))
-unfolding clock_arc
 clock_line = record {
   arc = clock_arc;
   named = refl;
@@ -151,7 +149,7 @@ clock_line = record {
 }
 
 -- the line from the clock pad stays: the nets of the slice don't feed its sink, which isn't a pin
-pad_arc : GraphArc
+abbrev pub pad_arc : GraphArc
 pad_arc = record { mux = 4; place = 0; source = 8; sink = 9; origin = record { frame = 0; bit = 4 }; arc = record { source = codes "KI"; bits = bit 0 ∷ [] } }
 
 unfed : (net : ℕ) → has (2 ∷ 3 ∷ []) net ≡ true → Feeds (routing (configured design)) net 9 → ⊥
@@ -183,7 +181,6 @@ no_pin pin i w = elim i [
     not_nine n e f = false≢true (sym f ∙ eq-eqb n 9 e)
 
 pad_line : IsRemoved job state slice clock_tile.name (line (codes "G_CK") (codes "KI")) → ⊥
-unfolding pad_arc
 pad_line h = elim h [
   | inl r ↦ (let same : pad_arc ≡ r.arc = some_same r.named in unfed r.net (new_wire r.net r.ripped) (subst (λ a. Feeds (routing (configured design)) r.net a.sink) (sym same) r.feeds))
   | inr k ↦ (let same : pad_arc ≡ k.arc = some_same k.named in no_pin k.pin k.listed (k.at_pin ∙ sym (ap (λ a. a.sink) same)))

@@ -17,7 +17,7 @@ use Rattle.circuit.specs.Circuits.{Connection}
 use Rattle.cells.specs.CellsOf.{slice_cells, pad_cells}
 use Rattle.cells.specs.Sites.{Site}
 use Rattle.repair.specs.Layouts.{Layout}
-use Rattle.repair.specs.Nets.{RipUnsafe}
+use Rattle.repair.specs.Nets.{RipUnsafe, RipAll}
 use Rattle.attempts.specs.Jobs.{Job, State}
 use Rattle.attempts.specs.Candidates.{Step}
 
@@ -205,3 +205,17 @@ step = record {
   layout = moved;
   ripped = to_data ∷ to_table ∷ to_clock ∷ [];
 }
+
+-- the design as one of which all nets but the clock's are ripped, and where its attempts start: without the route of
+-- the register
+abbrev pub ripped_job : Job
+ripped_job = record { device = two_tiles; design = design; rounds = 32; rip = RipAll }
+
+abbrev pub ripped_text : Config
+ripped_text = config_with (slice_text (codes "R0C0:L") (line (codes "CK") (codes "G_CK") ∷ []) (word ∷ []) ∷ clock_text ∷ [])
+
+abbrev pub ripped_layout : Layout
+ripped_layout = record { graph = graph; config = ripped_text; cells = design.cells; side = design.side }
+
+abbrev pub ripped_state : State
+ripped_state = record { layout = ripped_layout; order = to_data ∷ to_table ∷ []; rims = []; moved = []; sides = design.side ∷ [] }

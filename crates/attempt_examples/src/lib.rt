@@ -3,7 +3,7 @@
 
 ghost use Rattle.attempt_examples.specs.MovedToggle.{at_sites, moved_toggle, moved_toggle_side, third_moves};
 ghost use Rattle.attempt_examples.specs.SafeToggle.{toggle_job};
-ghost use Rattle.attempt_examples.specs.TwoTiles.{job, state, step};
+ghost use Rattle.attempt_examples.specs.TwoTiles.{design, job, ripped_job, state, step};
 ghost use Rattle.attempts.specs.Attempts.{AttemptComplete, Ended, IsAnswer, Routed};
 ghost use Rattle.attempts.specs.Candidates.{IsCandidate, IsFirst};
 ghost use Rattle.attempts.specs.Moves.{moved_config, moved_side, renamed};
@@ -35,4 +35,9 @@ pub fn slice_of_toggle_moves()
 pub fn slice_has_a_first_candidate()
     ensures candidate { IsCandidate job state step }
     ensures first { IsFirst job state (codes "a") step }
+{}
+
+/// Where all nets but clocks are ripped, the two connections of the slice get their paths back in one attempt.
+pub fn ripped_slice_is_routed_again()
+    ensures { IsAnswer ripped_job (Ended (AttemptComplete ∷ []) (Routed design 2)) }
 {}
