@@ -1,0 +1,4 @@
+pub mod Results
+pub mod Twice
+pub mod Judged
+pub mod SideRead

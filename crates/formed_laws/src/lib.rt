@@ -1,0 +1,13 @@
+//! Laws of what readers leave: the cells of an image that is read are well formed. There is no code but laws, each the
+//! contract of a function with an empty body.
+#![tactic(auto)]
+
+ghost use Rattle.formed_laws.specs.Readers.{IsReadSide};
+ghost use Rattle.formed_laws.specs.SideRead.{IsApart};
+ghost use Rattle.records.specs.Side.{Side};
+
+/// In a side file that is read no two cells have one name or one site, each entry of a triple is a cell of its list in
+/// the domain of its place, and each cell is in exactly one triple.
+pub fn read_side_is_apart()
+    ensures { (side : Side) → IsReadSide side → IsApart side }
+{}
