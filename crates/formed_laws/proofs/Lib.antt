@@ -1,4 +1,9 @@
 pub mod Results
+pub mod Found
 pub mod Twice
 pub mod Judged
 pub mod SideRead
+pub mod Elements
+pub mod KindForms
+pub mod OwnWires
+pub mod ProfileRead

@@ -18,3 +18,7 @@ was_there None e a h = absurd (let no : ⊥ = cc in no)
 pub no_fault : {A F : Type 0} (o : Option F) (x a : A) → unless_fault o x ≡ Ok a → (o ≡ None) × (x ≡ a)
 no_fault None x a h = (refl, (let s : x ≡ a = cc in s))
 no_fault (Some e) x a h = absurd (let no : ⊥ = cc in no)
+
+-- one answer has one value
+pub same_value : {A F : Type 0} (x y : A) (r : Result A F) → r ≡ Ok x → r ≡ Ok y → x ≡ y
+same_value x y r h k = cc

@@ -23,6 +23,7 @@ use Rattle.cells_laws.proofs.Options.{or_none}
 use Rattle.formed_laws.specs.Twice.{HasNoneTwice}
 use Rattle.formed_laws.specs.Readers.{IsReadSide}
 use Rattle.formed_laws.specs.SideRead.{site_of, Lists, EntriesAre, IsPaired, IsApart}
+use Rattle.formed_laws.proofs.Found.{all_pass}
 use Rattle.formed_laws.proofs.Judged.{keys_once}
 use Rattle.formed_laws.proofs.Results.{both, no_fault}
 
@@ -30,15 +31,6 @@ use Rattle.formed_laws.proofs.Results.{both, no_fault}
 not_passed : {E : Type 0} (b : Bool) (e : E) → (if b then Some e else None) ≡ None → b ≡ true → ⊥
 not_passed true e h t = let no : ⊥ = cc in no
 not_passed false e h t = false≢true t
-
--- nothing is found where all pass
-none_found : {X : Type 0} (t : X → Bool) (xs : List X) → find (λ x. not (t x)) xs ≡ None → (x : X) → In xs x → t x ≡ true
-none_found t [] h x i = absurd i
-none_found t (y ∷ ys) h x i = go (t y) refl h (λ k. none_found t ys k x)
-  where
-    go : (b : Bool) → t y ≡ b → cond (not b) (Some y) (find (λ x. not (t x)) ys) ≡ None → (find (λ x. not (t x)) ys ≡ None → In ys x → t x ≡ true) → t x ≡ true
-    go true e k ih = elim i [ inl s ↦ subst (λ z. t z ≡ true) s e | inr j ↦ ih k j ]
-    go false e k ih = absurd (let no : ⊥ = cc in no)
 
 none_mapped : {X Y : Type 0} (f : X → Y) (o : Option X) → option_map f o ≡ None → o ≡ None
 none_mapped f None h = refl
@@ -52,7 +44,7 @@ listed_is : (names : List (List ℕ)) (name : List ℕ) → In names name → is
 listed_is names name i = any_to (bytes_eq name) names name i ((bytes_eq-Decides name name).1 refl)
 
 all_listed : (names listed : List (List ℕ)) → first_outside names listed ≡ None → (name : List ℕ) → In names name → In listed name
-all_listed names listed h name i = is_listed listed name (none_found (is_member bytes_eq listed) names h name i)
+all_listed names listed h name i = is_listed listed name (all_pass (is_member bytes_eq listed) names h name i)
 
 same_domain_is : (d e : Domain) → same_domain d e ≡ true → d ≡ e
 same_domain_is D0 D0 h = refl
@@ -80,7 +72,7 @@ entries_are cells triples h t i = record {
 }
   where
     at : (name : List ℕ) (d : Domain) → In (entries_of_triple t) (name, d) → Lists cells name d
-    at name d j = in_domain cells name d (none_found (is_in_domain cells) (flat_map entries_of_triple triples)
+    at name d j = in_domain cells name d (all_pass (is_in_domain cells) (flat_map entries_of_triple triples)
         (none_mapped (λ (entry : List ℕ × Domain). entry.0) (find (λ entry. not (is_in_domain cells entry)) (flat_map entries_of_triple triples)) h)
         (name, d) (in_flat_map entries_of_triple triples t (name, d) i j))
 

@@ -1,10 +1,8 @@
 -- Lists in which nothing stands twice: their parts, and what stands in two of them.
-use Rattle.std.proofs.Common.{◌≡◌, ℕ, zero, suc, inl, inr, List, [], ◌∷◌, ◌++◌, map, flat_map, filter_map, Option, Some, None, refl, sym, ap, subst, ◌∙◌}
+use Rattle.std.proofs.Common.{◌≡◌, ℕ, zero, suc, inl, inr, List, [], ◌∷◌, ◌++◌, map, flat_map, Some, refl, sym, ap, subst, ◌∙◌}
 use Rattle.std.specs.Prelude.{slice_get}
-use Rattle.std.specs.List.{cons_option}
-use Rattle.std.proofs.lemmas.List.Elements.{filter_map-append}
 use Rattle.words.specs.Members.{In}
-use Rattle.links.proofs.Members.{in_left, in_right, in_map, in_flat_map}
+use Rattle.links.proofs.Members.{in_left, in_right, in_either, in_map, in_flat_map}
 use Rattle.fabric_laws.proofs.Numbered.{get_in}
 use Rattle.formed_laws.specs.Twice.{HasNoneTwice}
 
@@ -23,6 +21,14 @@ left_part (x ∷ xs) ys h = ((λ i. h.0 (in_left xs ys x i)), left_part xs ys h.
 pub right_part : {X : Type 0} (xs ys : List X) → HasNoneTwice (xs ++ ys) → HasNoneTwice ys
 right_part [] ys h = h
 right_part (x ∷ xs) ys h = right_part xs ys h.1
+
+-- two lists that share nothing, one behind the other
+pub joined_twice : {X : Type 0} (xs ys : List X) → HasNoneTwice xs → HasNoneTwice ys → ((z : X) → In xs z → In ys z → ⊥) → HasNoneTwice (xs ++ ys)
+joined_twice [] ys h k apart = k
+joined_twice (x ∷ xs) ys h k apart = (
+  (λ i. elim (in_either xs ys x i) [ inl j ↦ h.0 j | inr j ↦ apart x (inl refl) j ]),
+  joined_twice xs ys h.1 k (λ z i j. apart z (inr i) j),
+)
 
 module _ {X Y : Type 0} (f : X → Y) where
   -- elements with one key are one

@@ -1,3 +1,4 @@
 pub mod Twice
 pub mod SideRead
+pub mod ProfileRead
 pub mod Readers
