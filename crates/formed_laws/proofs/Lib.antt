@@ -7,3 +7,5 @@ pub mod Elements
 pub mod KindForms
 pub mod OwnWires
 pub mod ProfileRead
+pub mod Objects
+pub mod GridRead

@@ -14,6 +14,7 @@ use Rattle.words.specs.Members.{In}
 use Rattle.words.specs.Firsts.{first_fault}
 use Rattle.records.specs.Profile.{TakeIn, TakeOut, Case, Join, TableKind, SliceKind, PadKind, Profile}
 use Rattle.fabric.specs.WireNames.{BeginsWithOne}
+use Rattle.cells.specs.Standing.{KindsApart}
 use Rattle.json_forms.specs.Faults.{FormFault, NotJson, BadShape}
 use Rattle.json_forms.specs.Results.{◌>>=◌}
 use Rattle.json_forms.specs.Values.{Member, reading_of, object_in, member_in, name_in}
@@ -29,7 +30,7 @@ use Rattle.formed_laws.specs.Twice.{HasNoneTwice}
 use Rattle.formed_laws.specs.Readers.{IsReadProfile}
 use Rattle.formed_laws.specs.ProfileRead.{HaveEqualCounts, IsFit}
 use Rattle.formed_laws.proofs.Results.{both, same_value}
-use Rattle.formed_laws.proofs.Twice.{joined_twice}
+use Rattle.formed_laws.proofs.Twice.{left_part, right_part, joined_twice, one_of_key}
 use Rattle.formed_laws.proofs.Found.{found_none}
 use Rattle.formed_laws.proofs.Judged.{keys_once, each_faultless, all_alike}
 use Rattle.formed_laws.proofs.Elements.{judged, list_judged}
@@ -220,6 +221,15 @@ module _ (d : Data) where
   abbrev after_chip : Option (List ℕ) → Result Profile FormFault
   after_chip chip = list_read (codes "other_chips") name_in any_form d >>= after_others chip
 
+  judged_made : (chip : Option (List ℕ)) (others wide : List (List ℕ)) (joins : List Join) (slices : List SliceKind) (pads : List PadKind) (profile : Profile)
+      → list_read (codes "slices") slice_in (slice_verdict others) d ≡ Ok slices → list_read (codes "pads") pad_in (pad_verdict others slices) d ≡ Ok pads
+      → (let r : Result Profile FormFault = Ok (made chip others wide joins slices pads) in r ≡ Ok profile) → Judgement profile
+  judged_made chip others wide joins slices pads profile h k e =
+      let s = list_judged (codes "slices") slice_in (slice_verdict others) d slices h in
+      let p = list_judged (codes "pads") pad_in (pad_verdict others slices) d pads k in
+      subst Judgement (same_value (made chip others wide joins slices pads) profile (Ok (made chip others wide joins slices pads)) refl e)
+      (record { slices = s.0; slice_forms = s.1; pads = p.0 })
+
   -- the lists of a profile that is read pass their judges
   value_judged : (profile : Profile) → profile_of_value d ≡ Ok profile → Judgement profile
   unfolding profile_of_value
@@ -230,10 +240,7 @@ module _ (d : Data) where
       let j = both (list_read (codes "joins") join_in any_form d) (after_joins a.0 b.0 c.0) profile c.1.1 in
       let s = both (list_read (codes "slices") slice_in (slice_verdict b.0) d) (after_slices a.0 b.0 c.0 j.0) profile j.1.1 in
       let p = both (list_read (codes "pads") pad_in (pad_verdict b.0 s.0) d) (λ ps. Ok (made a.0 b.0 c.0 j.0 s.0 ps)) profile s.1.1 in
-      let slices = list_judged (codes "slices") slice_in (slice_verdict b.0) d s.0 s.1.0 in
-      let pads = list_judged (codes "pads") pad_in (pad_verdict b.0 s.0) d p.0 p.1.0 in
-      let same = same_value (made a.0 b.0 c.0 j.0 s.0 p.0) profile (Ok (made a.0 b.0 c.0 j.0 s.0 p.0)) refl p.1.1 in
-      subst Judgement same (record { slices = slices.0; slice_forms = slices.1; pads = pads.0 })
+      judged_made a.0 b.0 c.0 j.0 s.0 p.0 profile s.1.0 p.1.0 p.1.1
 
 -- a profile that is read fits
 pub read_fit : (profile : Profile) → IsReadProfile profile → IsFit profile
@@ -241,3 +248,14 @@ read_fit profile read =
     let d = both (ok_or (reading_of read.0) NotJson) (λ d. ok_or (object_in d) (BadShape top_key) >>= λ _. profile_of_value d) profile read.1 in
     let o = both (ok_or (object_in d.0) (BadShape top_key)) (λ _. profile_of_value d.0) profile d.1.1 in
     judged_fit profile (value_judged d.0 profile o.1.1)
+
+-- no two slice kinds of one type of tile have one name
+pub read_slices_apart : (profile : Profile) → IsReadProfile profile → KindsApart (λ k. k.tile) (λ k. k.name) profile.slices
+read_slices_apart profile read k l i j e f =
+    let once = left_part (map slice_name profile.slices) (map pad_name profile.pads) (read_fit profile read).kinds in
+    one_of_key slice_name profile.slices once k l i j (ap₂ (λ (a : List ℕ) (b : List ℕ). (a, b)) e f)
+
+pub read_pads_apart : (profile : Profile) → IsReadProfile profile → KindsApart (λ k. k.tile) (λ k. k.name) profile.pads
+read_pads_apart profile read k l i j e f =
+    let once = right_part (map slice_name profile.slices) (map pad_name profile.pads) (read_fit profile read).kinds in
+    one_of_key pad_name profile.pads once k l i j (ap₂ (λ (a : List ℕ) (b : List ℕ). (a, b)) e f)

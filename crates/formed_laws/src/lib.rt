@@ -2,11 +2,17 @@
 //! contract of a function with an empty body.
 #![tactic(auto)]
 
+ghost use Rattle.cells.specs.Standing.{KindsApart, TilesApart};
+ghost use Rattle.fabric.specs.Graph.{Graph};
+ghost use Rattle.fabric.specs.InOrder.{IsRising};
+ghost use Rattle.fabric.specs.Wires.{name_cmp};
 ghost use Rattle.formed_laws.specs.ProfileRead.{IsFit};
-ghost use Rattle.formed_laws.specs.Readers.{IsReadProfile, IsReadSide};
+ghost use Rattle.formed_laws.specs.Readers.{IsReadGrid, IsReadProfile, IsReadSide};
 ghost use Rattle.formed_laws.specs.SideRead.{IsApart};
+ghost use Rattle.records.specs.Grid.{Grid};
 ghost use Rattle.records.specs.Profile.{Profile};
 ghost use Rattle.records.specs.Side.{Side};
+ghost use Rattle.std.specs.Prelude.{map};
 
 /// In a side file that is read no two cells have one name or one site, each entry of a triple is a cell of its list in
 /// the domain of its place, and each cell is in exactly one triple.
@@ -17,5 +23,13 @@ pub fn read_side_is_apart()
 /// In a profile that is read no two kinds have one type of tile and one name, slices of one shape have equal counts, and
 /// a table has 1 to 4 pins.
 pub fn read_profile_has_kinds_apart()
-    ensures { (profile : Profile) → IsReadProfile profile → IsFit profile }
+    ensures fit { (profile : Profile) → IsReadProfile profile → IsFit profile }
+    ensures slices { (profile : Profile) → IsReadProfile profile → KindsApart (λ k. k.tile) (λ k. k.name) profile.slices }
+    ensures pads { (profile : Profile) → IsReadProfile profile → KindsApart (λ k. k.tile) (λ k. k.name) profile.pads }
+{}
+
+/// In a grid that is read the tiles stand in byte order of their names, and no two have one name.
+pub fn read_grid_has_tiles_apart()
+    ensures order { (grid : Grid) → IsReadGrid grid → IsRising name_cmp (map (λ t. t.name) grid.tiles) }
+    ensures apart { (g : Graph) → IsReadGrid g.grid → TilesApart g }
 {}
