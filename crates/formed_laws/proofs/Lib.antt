@@ -9,3 +9,6 @@ pub mod OwnWires
 pub mod ProfileRead
 pub mod Objects
 pub mod GridRead
+pub mod Placed
+pub mod Sizes
+pub mod Formed

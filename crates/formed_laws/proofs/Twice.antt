@@ -1,6 +1,8 @@
 -- Lists in which nothing stands twice: their parts, and what stands in two of them.
 use Rattle.std.proofs.Common.{◌≡◌, ℕ, zero, suc, inl, inr, List, [], ◌∷◌, ◌++◌, map, flat_map, Some, refl, sym, ap, subst, ◌∙◌}
 use Rattle.std.specs.Prelude.{slice_get}
+use Rattle.std.proofs.lemmas.List.{map-append}
+use Rattle.std.proofs.lemmas.List.Concat.{flat_map-append}
 use Rattle.words.specs.Members.{In}
 use Rattle.links.proofs.Members.{in_left, in_right, in_either, in_map, in_flat_map}
 use Rattle.fabric_laws.proofs.Numbered.{get_in}
@@ -82,3 +84,16 @@ module _ {X Y : Type 0} (f : X → List Y) where
   one_giving_place (w ∷ ws) h (suc m) zero x y z i j k l =
       let b : w ≡ y = cc in absurd (not_both (f w) (flat_map f ws) h z (subst (λ v. In (f v) z) (sym b) l) (in_flat_map f ws x z (get_in ws m x i) k))
   one_giving_place (w ∷ ws) h (suc m) (suc n) x y z i j k l = ap suc (one_giving_place ws (right_part (f w) (flat_map f ws) h) m n x y z i j k l)
+
+-- two parts give nothing that is one
+pub givers_apart : {X Y : Type 0} (f : X → List Y) (xs ys : List X) → HasNoneTwice (flat_map f (xs ++ ys)) → (x y : X) (z : Y) → In xs x → In ys y → In (f x) z → In (f y) z → ⊥
+givers_apart f xs ys h x y z i j k l =
+    not_both (flat_map f xs) (flat_map f ys) (subst HasNoneTwice (flat_map-append f xs ys) h) z (in_flat_map f xs x z i k) (in_flat_map f ys y z j l)
+
+pub left_givers : {X Y : Type 0} (f : X → List Y) (xs ys : List X) → HasNoneTwice (flat_map f (xs ++ ys)) → HasNoneTwice (flat_map f xs)
+left_givers f xs ys h = left_part (flat_map f xs) (flat_map f ys) (subst HasNoneTwice (flat_map-append f xs ys) h)
+
+-- two parts have no key in common
+pub keys_apart : {X Y : Type 0} (f : X → Y) (xs ys : List X) → HasNoneTwice (map f (xs ++ ys)) → (x y : X) → In xs x → In ys y → f x ≡ f y → ⊥
+keys_apart f xs ys h x y i j e =
+    not_both (map f xs) (map f ys) (subst HasNoneTwice (map-append f xs ys) h) (f y) (subst (In (map f xs)) e (in_map f xs x i)) (in_map f ys y j)

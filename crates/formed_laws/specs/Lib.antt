@@ -2,3 +2,4 @@ pub mod Twice
 pub mod SideRead
 pub mod ProfileRead
 pub mod Readers
+pub mod Designs

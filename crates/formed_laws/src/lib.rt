@@ -3,9 +3,13 @@
 #![tactic(auto)]
 
 ghost use Rattle.cells.specs.Standing.{KindsApart, TilesApart};
+ghost use Rattle.circuit.specs.Triplicated.{EntriesInDomain};
+ghost use Rattle.circuit.specs.WellFormed.{NamesApart, SizesFit, TriplesFit};
+ghost use Rattle.fabric.specs.Device.{Device};
 ghost use Rattle.fabric.specs.Graph.{Graph};
 ghost use Rattle.fabric.specs.InOrder.{IsRising};
 ghost use Rattle.fabric.specs.Wires.{name_cmp};
+ghost use Rattle.formed_laws.specs.Designs.{IsReadDesign};
 ghost use Rattle.formed_laws.specs.ProfileRead.{IsFit};
 ghost use Rattle.formed_laws.specs.Readers.{IsReadGrid, IsReadProfile, IsReadSide};
 ghost use Rattle.formed_laws.specs.SideRead.{IsApart};
@@ -13,6 +17,7 @@ ghost use Rattle.records.specs.Grid.{Grid};
 ghost use Rattle.records.specs.Profile.{Profile};
 ghost use Rattle.records.specs.Side.{Side};
 ghost use Rattle.std.specs.Prelude.{map};
+ghost use Rattle.upset.specs.Configured.{Configured, circuit_of};
 
 /// In a side file that is read no two cells have one name or one site, each entry of a triple is a cell of its list in
 /// the domain of its place, and each cell is in exactly one triple.
@@ -32,4 +37,12 @@ pub fn read_profile_has_kinds_apart()
 pub fn read_grid_has_tiles_apart()
     ensures order { (grid : Grid) → IsReadGrid grid → IsRising name_cmp (map (λ t. t.name) grid.tiles) }
     ensures apart { (g : Graph) → IsReadGrid g.grid → TilesApart g }
+{}
+
+/// The cells of a design that is read are well formed, and entry i of each triple lies in domain i.
+pub fn cells_are_well_formed()
+    ensures names { (device : Device) (k : Configured) → IsReadDesign device k → NamesApart k.cells }
+    ensures triples { (device : Device) (k : Configured) → IsReadDesign device k → TriplesFit (circuit_of k) }
+    ensures sizes { (device : Device) (k : Configured) → IsReadDesign device k → SizesFit (circuit_of k) }
+    ensures entries { (device : Device) (k : Configured) → IsReadDesign device k → EntriesInDomain (circuit_of k) }
 {}
