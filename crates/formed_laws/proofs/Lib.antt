@@ -12,3 +12,7 @@ pub mod GridRead
 pub mod Placed
 pub mod Sizes
 pub mod Formed
+pub mod Settings
+pub mod Takes
+pub mod SiteOutputs
+pub mod Outputs

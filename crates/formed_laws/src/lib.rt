@@ -4,7 +4,7 @@
 
 ghost use Rattle.cells.specs.Standing.{KindsApart, TilesApart};
 ghost use Rattle.circuit.specs.Triplicated.{EntriesInDomain};
-ghost use Rattle.circuit.specs.WellFormed.{NamesApart, SizesFit, TriplesFit};
+ghost use Rattle.circuit.specs.WellFormed.{IsWellFormed};
 ghost use Rattle.fabric.specs.Device.{Device};
 ghost use Rattle.fabric.specs.Graph.{Graph};
 ghost use Rattle.fabric.specs.InOrder.{IsRising};
@@ -13,9 +13,12 @@ ghost use Rattle.formed_laws.specs.Designs.{IsReadDesign};
 ghost use Rattle.formed_laws.specs.ProfileRead.{IsFit};
 ghost use Rattle.formed_laws.specs.Readers.{IsReadGrid, IsReadProfile, IsReadSide};
 ghost use Rattle.formed_laws.specs.SideRead.{IsApart};
+ghost use Rattle.links.specs.Links.{IsClean};
 ghost use Rattle.records.specs.Grid.{Grid};
 ghost use Rattle.records.specs.Profile.{Profile};
 ghost use Rattle.records.specs.Side.{Side};
+ghost use Rattle.repair.specs.Turns.{routing};
+ghost use Rattle.repair_laws.specs.Ready.{IsReady};
 ghost use Rattle.std.specs.Prelude.{map};
 ghost use Rattle.upset.specs.Configured.{Configured, circuit_of};
 
@@ -39,10 +42,10 @@ pub fn read_grid_has_tiles_apart()
     ensures apart { (g : Graph) → IsReadGrid g.grid → TilesApart g }
 {}
 
-/// The cells of a design that is read are well formed, and entry i of each triple lies in domain i.
+/// The cells of a design that is read are well formed, entry i of each triple lies in domain i, and where its routing is
+/// clean it is ready for repair.
 pub fn cells_are_well_formed()
-    ensures names { (device : Device) (k : Configured) → IsReadDesign device k → NamesApart k.cells }
-    ensures triples { (device : Device) (k : Configured) → IsReadDesign device k → TriplesFit (circuit_of k) }
-    ensures sizes { (device : Device) (k : Configured) → IsReadDesign device k → SizesFit (circuit_of k) }
+    ensures formed { (device : Device) (k : Configured) → IsReadDesign device k → IsWellFormed (circuit_of k) }
     ensures entries { (device : Device) (k : Configured) → IsReadDesign device k → EntriesInDomain (circuit_of k) }
+    ensures ready { (device : Device) (k : Configured) → IsReadDesign device k → IsClean (routing k) → IsReady device k }
 {}
