@@ -1,18 +1,29 @@
 -- The cells of a design that is read are well formed.
-use Rattle.std.proofs.Common.{sym, subst}
+use Rattle.std.proofs.Common.{◌≡◌, ap₂, sym, subst}
 use Rattle.words.specs.Members.{In}
-use Rattle.patterns.specs.Bits.{DeviceBit}
-use Rattle.links.specs.Links.{IsClean}
+use Rattle.patterns.specs.Bits.{DeviceBit, Bits}
+use Rattle.records.specs.Side.{Domain, Side}
+use Rattle.links.specs.Links.{Routing, IsClean}
 use Rattle.fabric.specs.Device.{Device}
+use Rattle.fabric.specs.Graph.{Graph}
+use Rattle.fabric.specs.GraphOf.{IsGraph}
+use Rattle.circuit.specs.Circuits.{Circuit}
+use Rattle.circuit.specs.Faults.{Fault}
+use Rattle.circuit.specs.Right.{RightOutside, TwoAreRight}
 use Rattle.circuit.specs.Cells.{SliceCell, PadCell}
-use Rattle.circuit.specs.Triplicated.{EntriesInDomain}
+use Rattle.circuit.specs.Triplicated.{EntriesInDomain, IsTriplicated}
 use Rattle.circuit.specs.WellFormed.{NamesApart, OutputsApart, TriplesFit, SizesFit, IsWellFormed}
+use Rattle.cells.specs.CellsOf.{IsCircuitOf}
+use Rattle.upset.specs.Effect.{IsEffect}
+use Rattle.upset.specs.Safe.{IsBad, IsSafe, IsMuxFault}
+use Rattle.upset_laws.proofs.Masked.{flips_masked, mux_bits_masked}
 use Rattle.upset.specs.Configured.{Configured, circuit_of}
 use Rattle.repair.specs.Plain.{setting_bits}
 use Rattle.repair.specs.Turns.{routing}
 use Rattle.repair_laws.specs.Ready.{BitsAreSettings, IsReady}
 use Rattle.cells_laws.proofs.Sites.{site_stands}
-use Rattle.formed_laws.specs.Designs.{IsReadDesign}
+use Rattle.formed_laws.specs.Readers.{IsReadProfile, IsReadSide}
+use Rattle.formed_laws.specs.Designs.{NoOverlap, IsReadDesign}
 use Rattle.formed_laws.proofs.SideRead.{read_apart}
 use Rattle.formed_laws.proofs.ProfileRead.{read_fit}
 use Rattle.formed_laws.proofs.Placed as placed
@@ -56,3 +67,27 @@ module _ (device : Device) (k : Configured) (r : IsReadDesign device k) where
 
   pub entries_in_domain : EntriesInDomain (circuit_of k)
   entries_in_domain = placed.entries_in_domain device k (read_apart k.side r.side) r.cells
+
+  -- flips that aren't bad are masked, and so is each routing-mux bit where the image is safe
+  pub flips_masked_there : IsClean (routing k) → IsTriplicated (circuit_of k) → (flips : Bits) (f : Fault) → IsEffect k flips f → (IsBad k flips → ⊥)
+      → ((d : Domain) × RightOutside (circuit_of k) f d) × TwoAreRight (circuit_of k) f
+  flips_masked_there clean triplicated = flips_masked k clean well_formed triplicated
+
+  pub mux_bits_masked_there : IsClean (routing k) → IsTriplicated (circuit_of k) → IsSafe k → (f : Fault) → IsMuxFault k f
+      → ((d : Domain) × RightOutside (circuit_of k) f d) × TwoAreRight (circuit_of k) f
+  mux_bits_masked_there clean triplicated = mux_bits_masked k clean well_formed triplicated
+
+-- the circuit that an image makes, with its parts put together
+module _ (device : Device) (g : Graph) (image : Bits) (side : Side) (c : Circuit) (profile : IsReadProfile device.profile) (read : IsReadSide side)
+    (graph : IsGraph device g) (overlap : NoOverlap device g) (made : IsCircuitOf g device.profile image side c) where
+  abbrev configured : Configured
+  configured = record { graph = g; image = image; cells = c.cells; side = side }
+
+  same_circuit : circuit_of configured ≡ c
+  same_circuit = ap₂ (λ (r : Routing) (s : Side). let d : Circuit = record { routing = r; cells = c.cells; side = s } in d) (sym made.routing) (sym made.same_side)
+
+  design : IsReadDesign device configured
+  design = record { profile = profile; side = read; graph = graph; outputs = overlap; cells = made.cells }
+
+  pub circuit_formed : IsWellFormed c × EntriesInDomain c
+  circuit_formed = (subst IsWellFormed same_circuit (well_formed device configured design), subst EntriesInDomain same_circuit (entries_in_domain device configured design))

@@ -3,7 +3,6 @@ use Rattle.std.specs.Prelude.{◌≡◌, ℕ, List, Ok}
 use Rattle.records.specs.Grid.{Grid}
 use Rattle.records.specs.Profile.{Profile}
 use Rattle.records.specs.Side.{Side}
-use Rattle.fabric.specs.Device.{Device}
 use Rattle.json_forms.specs.Grid.{grid_of}
 use Rattle.json_forms.specs.Profile.{profile_of}
 use Rattle.side_form.specs.Side.{side_of}
@@ -19,8 +18,3 @@ IsReadProfile profile = (bytes : List ℕ) × (profile_of bytes ≡ Ok profile)
 -- some bytes are read as this side file
 abbrev pub IsReadSide : Side → Type 0
 IsReadSide side = (bytes : List ℕ) × (side_of bytes ≡ Ok side)
-
--- the grid and the profile of a device are read
-pub record IsReadDevice (device : Device) : Type 0 where
-  pub grid : IsReadGrid device.grid
-  pub profile : IsReadProfile device.profile

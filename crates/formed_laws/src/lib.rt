@@ -2,25 +2,33 @@
 //! contract of a function with an empty body.
 #![tactic(auto)]
 
+ghost use Rattle.cells.specs.CellsOf.{IsCircuitOf};
 ghost use Rattle.cells.specs.Standing.{KindsApart, TilesApart};
-ghost use Rattle.circuit.specs.Triplicated.{EntriesInDomain};
+ghost use Rattle.circuit.specs.Circuits.{Circuit};
+ghost use Rattle.circuit.specs.Faults.{Fault};
+ghost use Rattle.circuit.specs.Right.{RightOutside, TwoAreRight};
+ghost use Rattle.circuit.specs.Triplicated.{EntriesInDomain, IsTriplicated};
 ghost use Rattle.circuit.specs.WellFormed.{IsWellFormed};
 ghost use Rattle.fabric.specs.Device.{Device};
 ghost use Rattle.fabric.specs.Graph.{Graph};
+ghost use Rattle.fabric.specs.GraphOf.{IsGraph};
 ghost use Rattle.fabric.specs.InOrder.{IsRising};
 ghost use Rattle.fabric.specs.Wires.{name_cmp};
-ghost use Rattle.formed_laws.specs.Designs.{IsReadDesign};
+ghost use Rattle.formed_laws.specs.Designs.{IsReadDesign, NoOverlap};
 ghost use Rattle.formed_laws.specs.ProfileRead.{IsFit};
 ghost use Rattle.formed_laws.specs.Readers.{IsReadGrid, IsReadProfile, IsReadSide};
 ghost use Rattle.formed_laws.specs.SideRead.{IsApart};
 ghost use Rattle.links.specs.Links.{IsClean};
+ghost use Rattle.patterns.specs.Bits.{Bits};
 ghost use Rattle.records.specs.Grid.{Grid};
 ghost use Rattle.records.specs.Profile.{Profile};
-ghost use Rattle.records.specs.Side.{Side};
+ghost use Rattle.records.specs.Side.{Domain, Side};
 ghost use Rattle.repair.specs.Turns.{routing};
 ghost use Rattle.repair_laws.specs.Ready.{IsReady};
 ghost use Rattle.std.specs.Prelude.{map};
 ghost use Rattle.upset.specs.Configured.{Configured, circuit_of};
+ghost use Rattle.upset.specs.Effect.{IsEffect};
+ghost use Rattle.upset.specs.Safe.{IsBad, IsMuxFault, IsSafe};
 
 /// In a side file that is read no two cells have one name or one site, each entry of a triple is a cell of its list in
 /// the domain of its place, and each cell is in exactly one triple.
@@ -47,5 +55,19 @@ pub fn read_grid_has_tiles_apart()
 pub fn cells_are_well_formed()
     ensures formed { (device : Device) (k : Configured) → IsReadDesign device k → IsWellFormed (circuit_of k) }
     ensures entries { (device : Device) (k : Configured) → IsReadDesign device k → EntriesInDomain (circuit_of k) }
+    ensures of_circuits { (device : Device) (g : Graph) (image : Bits) (side : Side) (c : Circuit) → IsReadProfile device.profile → IsReadSide side
+        → IsGraph device g → NoOverlap device g → IsCircuitOf g device.profile image side c → IsWellFormed c × EntriesInDomain c }
     ensures ready { (device : Device) (k : Configured) → IsReadDesign device k → IsClean (routing k) → IsReady device k }
+{}
+
+/// Masking of a design that is read: where its routing is clean and it is triplicated, any flips that aren't bad leave
+/// each output pad outside one domain right, so at least two of each three; where it is safe, so does each single
+/// routing-mux bit.
+pub fn read_design_is_masked()
+    ensures flips { (device : Device) (k : Configured) → IsReadDesign device k → IsClean (routing k) → IsTriplicated (circuit_of k)
+        → (flips : Bits) (f : Fault) → IsEffect k flips f → (IsBad k flips → ⊥)
+        → ((d : Domain) × RightOutside (circuit_of k) f d) × TwoAreRight (circuit_of k) f }
+    ensures mux_bits { (device : Device) (k : Configured) → IsReadDesign device k → IsClean (routing k) → IsTriplicated (circuit_of k) → IsSafe k
+        → (f : Fault) → IsMuxFault k f
+        → ((d : Domain) × RightOutside (circuit_of k) f d) × TwoAreRight (circuit_of k) f }
 {}
