@@ -16,6 +16,7 @@ use Rattle.circuit.specs.WellFormed.{NamesApart, OutputsApart, TriplesFit, Sizes
 use Rattle.cells.specs.CellsOf.{IsCircuitOf}
 use Rattle.upset.specs.Effect.{IsEffect}
 use Rattle.upset.specs.Safe.{IsBad, IsSafe, IsMuxFault}
+use Rattle.upset_laws.specs.PlainUpset.{OutputsListed}
 use Rattle.upset_laws.proofs.Masked.{flips_masked, mux_bits_masked}
 use Rattle.upset.specs.Configured.{Configured, circuit_of}
 use Rattle.repair.specs.Plain.{setting_bits}
@@ -43,6 +44,9 @@ module _ (device : Device) (k : Configured) (r : IsReadDesign device k) where
 
   pub outputs_apart : OutputsApart (circuit_of k)
   outputs_apart = outputs.outputs_apart device k (read_apart k.side r.side) (read_fit device.profile r.profile) r.graph r.outputs r.cells
+
+  pub outputs_listed : OutputsListed k
+  outputs_listed s i = outputs_apart.listed s i
 
   pub well_formed : IsWellFormed (circuit_of k)
   well_formed = record { names = names_apart; outputs = outputs_apart; triples = triples_fit; sizes = sizes_fit }

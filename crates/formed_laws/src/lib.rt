@@ -29,6 +29,7 @@ ghost use Rattle.std.specs.Prelude.{map};
 ghost use Rattle.upset.specs.Configured.{Configured, circuit_of};
 ghost use Rattle.upset.specs.Effect.{IsEffect};
 ghost use Rattle.upset.specs.Safe.{IsBad, IsMuxFault, IsSafe};
+ghost use Rattle.upset_laws.specs.PlainUpset.{OutputsListed};
 
 /// In a side file that is read no two cells have one name or one site, each entry of a triple is a cell of its list in
 /// the domain of its place, and each cell is in exactly one triple.
@@ -50,13 +51,14 @@ pub fn read_grid_has_tiles_apart()
     ensures apart { (g : Graph) → IsReadGrid g.grid → TilesApart g }
 {}
 
-/// The cells of a design that is read are well formed, entry i of each triple lies in domain i, and where its routing is
-/// clean it is ready for repair.
+/// The cells of a design that is read are well formed, and entry i of each triple lies in domain i. Its outputs are cell
+/// outputs, which the plain tests of flips ask, and where its routing is clean it is ready for repair.
 pub fn cells_are_well_formed()
     ensures formed { (device : Device) (k : Configured) → IsReadDesign device k → IsWellFormed (circuit_of k) }
     ensures entries { (device : Device) (k : Configured) → IsReadDesign device k → EntriesInDomain (circuit_of k) }
     ensures of_circuits { (device : Device) (g : Graph) (image : Bits) (side : Side) (c : Circuit) → IsReadProfile device.profile → IsReadSide side
         → IsGraph device g → NoOverlap device g → IsCircuitOf g device.profile image side c → IsWellFormed c × EntriesInDomain c }
+    ensures listed { (device : Device) (k : Configured) → IsReadDesign device k → OutputsListed k }
     ensures ready { (device : Device) (k : Configured) → IsReadDesign device k → IsClean (routing k) → IsReady device k }
 {}
 
