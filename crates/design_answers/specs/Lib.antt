@@ -1,4 +1,5 @@
 pub mod BadBits
 pub mod Reported
 pub mod Outcomes
+pub mod RunOutcomes
 pub mod Headline
