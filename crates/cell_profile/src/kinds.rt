@@ -1,0 +1,231 @@
+//! The kinds of a profile, each by its form.
+
+ghost use Rattle.std.specs.Prelude.{◌≡◌};
+ghost use Rattle.json_forms.specs.Kinds.{is_pin_count as is_pin_count_spec};
+
+use crate::Choice;
+use crate::choices::read_choice;
+use crate::takes::Purpose;
+use json_values::{FormError, FromJson, list, member, name, name_or_empty, pair, triple};
+use rr_ids::{List, Name};
+use serde_json::Value;
+use std::alloc::Global;
+use std::marker::Model;
+
+/// A connection of a tile type that is always there. Contracts see the record of the fields.
+#[derive(Debug, Drop)]
+pub struct Join {
+    pub tile: Name,
+    pub sink: Name,
+    pub source: Name,
+}
+
+impl Model for Join {
+    ghost use Rattle.records.specs.Profile.{Join as Record};
+
+    ghost Value = { Record };
+
+    ghost view = { λ j. record { tile = j.tile; sink = j.sink; source = j.source } };
+}
+
+impl FromJson for Join {
+    ghost use Rattle.json_forms.specs.Kinds.{join_in};
+
+    ghost value_in = { join_in };
+
+    #[tactic(auto, unfolding(json_forms::specs::Kinds::join_in))]
+    fn from_json(alloc: Global, value: &Value) -> Result<Join, FormError> {
+        let (tile, sink, source) = triple(value)?;
+        Ok(Join {
+            tile: name(alloc, tile)?,
+            sink: name(alloc, sink)?,
+            source: name(alloc, source)?,
+        })
+    }
+}
+
+/// An enum and the value that it must have. Contracts see the record of the fields.
+#[derive(Debug, Drop)]
+pub struct Require {
+    pub setting: Name,
+    pub value: Name,
+}
+
+impl Model for Require {
+    ghost use Rattle.records.specs.Profile.{Require as Record};
+
+    ghost Value = { Record };
+
+    ghost view = { λ r. record { setting = r.setting; value = r.value } };
+}
+
+impl FromJson for Require {
+    ghost use Rattle.json_forms.specs.Kinds.{require_in};
+
+    ghost value_in = { require_in };
+
+    #[tactic(auto, unfolding(json_forms::specs::Kinds::require_in))]
+    fn from_json(alloc: Global, value: &Value) -> Result<Require, FormError> {
+        let (setting, wanted) = pair(value)?;
+        Ok(Require {
+            setting: name(alloc, setting)?,
+            value: name(alloc, wanted)?,
+        })
+    }
+}
+
+/// A table: its word, its pins from number 0 on, and its output. Contracts see the record of the fields.
+#[derive(Debug, Drop)]
+pub struct TableKind {
+    pub word: Name,
+    pub pins: List<Name>,
+    pub out: Name,
+}
+
+impl Model for TableKind {
+    ghost use Rattle.records.specs.Profile.{TableKind as Record};
+
+    ghost Value = { Record };
+
+    ghost view = { λ t. record { word = t.word; pins = t.pins; out = t.out } };
+}
+
+// Whether a table may have this many pins.
+fn is_pin_count(count: usize) -> bool
+    ensures { result ≡ is_pin_count_spec count }
+{
+    1 <= count && count <= 4
+}
+
+impl FromJson for TableKind {
+    ghost use Rattle.json_forms.specs.Kinds.{table_in};
+
+    ghost value_in = { table_in };
+
+    #[tactic(auto, unfolding(json_forms::specs::Kinds::table_in))]
+    fn from_json(alloc: Global, value: &Value) -> Result<TableKind, FormError> {
+        let word = name(alloc, member(value, "word")?)?;
+        let pins = list::<Name>(alloc, member(value, "pins")?)?;
+        let out = name(alloc, member(value, "out")?)?;
+        if !is_pin_count(pins.len()) {
+            return Err(FormError::Unfit);
+        }
+        Ok(TableKind { word, pins, out })
+    }
+}
+
+/// A register; `input` is its data. Contracts see the record of the fields.
+#[derive(Debug, Drop)]
+pub struct RegisterKind {
+    pub input: Choice,
+    pub enable: Choice,
+    pub reset: Choice,
+    pub set: Choice,
+    pub clock: Choice,
+    pub out: Name,
+}
+
+impl Model for RegisterKind {
+    ghost use Rattle.records.specs.Profile.{RegisterKind as Record};
+
+    ghost Value = { Record };
+
+    ghost view = { λ r. record { input = r.input; enable = r.enable; reset = r.reset; set = r.set; clock = r.clock; out = r.out } };
+}
+
+impl FromJson for RegisterKind {
+    ghost use Rattle.json_forms.specs.Kinds.{register_in};
+
+    ghost value_in = { register_in };
+
+    #[tactic(auto, unfolding(json_forms::specs::Kinds::register_in))]
+    fn from_json(alloc: Global, value: &Value) -> Result<RegisterKind, FormError> {
+        let out = name(alloc, member(value, "out")?)?;
+        Ok(RegisterKind {
+            input: read_choice(alloc, Purpose::Input, member(value, "data")?)?,
+            enable: read_choice(alloc, Purpose::Input, member(value, "enable")?)?,
+            reset: read_choice(alloc, Purpose::Input, member(value, "reset")?)?,
+            set: read_choice(alloc, Purpose::Set, member(value, "set")?)?,
+            clock: read_choice(alloc, Purpose::Clock, member(value, "clock")?)?,
+            out,
+        })
+    }
+}
+
+/// A kind of slice: a tile type, a name in it, a shape, the settings that count for it, the enums that must have a
+/// value, and its tables and registers. Contracts see the record of the fields.
+#[derive(Debug, Drop)]
+pub struct SliceKind {
+    pub tile: Name,
+    pub name: Name,
+    pub shape: Name,
+    pub settings: List<Name>,
+    pub require: List<Require>,
+    pub tables: List<TableKind>,
+    pub registers: List<RegisterKind>,
+}
+
+impl Model for SliceKind {
+    ghost use Rattle.records.specs.Profile.{SliceKind as Record};
+
+    ghost Value = { Record };
+
+    ghost view = { λ k. record { tile = k.tile; name = k.name; shape = k.shape; settings = k.settings; require = k.require; tables = k.tables; registers = k.registers } };
+}
+
+impl FromJson for SliceKind {
+    ghost use Rattle.json_forms.specs.Kinds.{slice_in};
+
+    ghost value_in = { slice_in };
+
+    #[tactic(auto, unfolding(json_forms::specs::Kinds::slice_in))]
+    fn from_json(alloc: Global, value: &Value) -> Result<SliceKind, FormError> {
+        Ok(SliceKind {
+            tile: name(alloc, member(value, "tile")?)?,
+            name: name(alloc, member(value, "name")?)?,
+            shape: name(alloc, member(value, "shape")?)?,
+            settings: list::<Name>(alloc, member(value, "settings")?)?,
+            require: list::<Require>(alloc, member(value, "require")?)?,
+            tables: list::<TableKind>(alloc, member(value, "tables")?)?,
+            registers: list::<RegisterKind>(alloc, member(value, "registers")?)?,
+        })
+    }
+}
+
+/// A kind of pad: a tile type, a name in it, the settings that count for it, its mode, and its wires where it has
+/// them. Contracts see the record of the fields.
+#[derive(Debug, Drop)]
+pub struct PadKind {
+    pub tile: Name,
+    pub name: Name,
+    pub settings: List<Name>,
+    pub mode: Choice,
+    pub in_wire: Option<Name>,
+    pub out_wire: Option<Name>,
+}
+
+impl Model for PadKind {
+    ghost use Rattle.records.specs.Profile.{PadKind as Record};
+
+    ghost Value = { Record };
+
+    ghost view = { λ k. record { tile = k.tile; name = k.name; settings = k.settings; mode = k.mode; in_wire = k.in_wire; out_wire = k.out_wire } };
+}
+
+impl FromJson for PadKind {
+    ghost use Rattle.json_forms.specs.Kinds.{pad_in};
+
+    ghost value_in = { pad_in };
+
+    #[tactic(auto, unfolding(json_forms::specs::Kinds::pad_in))]
+    fn from_json(alloc: Global, value: &Value) -> Result<PadKind, FormError> {
+        Ok(PadKind {
+            tile: name(alloc, member(value, "tile")?)?,
+            name: name(alloc, member(value, "name")?)?,
+            settings: list::<Name>(alloc, member(value, "settings")?)?,
+            mode: read_choice(alloc, Purpose::Mode, member(value, "mode")?)?,
+            in_wire: name_or_empty(alloc, member(value, "in")?)?,
+            out_wire: name_or_empty(alloc, member(value, "out")?)?,
+        })
+    }
+}

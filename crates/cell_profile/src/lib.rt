@@ -1,0 +1,12 @@
+//! The cell profile: which wires and settings of a tile type make slices and pads.
+#![tactic(auto)]
+
+mod choices;
+mod errors;
+mod kinds;
+mod takes;
+
+pub use choices::{Case, Choice};
+pub use errors::ProfileError;
+pub use kinds::{Join, PadKind, RegisterKind, Require, SliceKind, TableKind};
+pub use takes::Take;
