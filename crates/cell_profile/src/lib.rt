@@ -3,10 +3,18 @@
 
 mod choices;
 mod errors;
+mod judges;
 mod kinds;
+mod members;
+mod profile;
+mod rules;
 mod takes;
 
 pub use choices::{Case, Choice};
 pub use errors::ProfileError;
 pub use kinds::{Join, PadKind, RegisterKind, Require, SliceKind, TableKind};
+pub use profile::{Profile, read};
 pub use takes::Take;
+
+#[cfg(test)]
+mod tests;
