@@ -1,14 +1,15 @@
 //! The rules that kinds keep, beside their forms.
 
-ghost use Rattle.std.specs.Prelude.{◌≡◌, ◌++◌, true, map, length, nat_eq};
-ghost use Rattle.std.specs.Option.{option_map_or};
+ghost use Rattle.std.specs.Prelude.{◌≡◌, ◌++◌, true, map, length, find, nat_eq};
+ghost use Rattle.std.specs.Option.{option_copied, option_map_or};
+ghost use Rattle.std.specs.List.{list_all, list_any, starts_with};
 ghost use Rattle.std.specs.Cmp.Lexicographic.{pointwise};
 ghost use Rattle.std.specs.Set.{is_member};
 ghost use Rattle.std.specs.Str.{bytes_eq};
 ghost use Rattle.json_forms.specs.KindRules as rules;
 ghost use Rattle.cell_profile.specs.Takes.{take_of};
 
-use crate::{Choice, PadKind, RegisterKind, SliceKind, TableKind, Take};
+use crate::{Case, Choice, PadKind, RegisterKind, Require, SliceKind, TableKind, Take};
 use rr_ids::Name;
 
 // Settings
@@ -40,23 +41,54 @@ fn register_settings_stand(settings: &[Name], register: &RegisterKind) -> bool
         && choice_setting_stands(settings, &register.clock)
 }
 
+fn all_registers_stand(settings: &[Name], registers: &[RegisterKind]) -> bool
+    ensures { result ≡ list_all (rules.register_settings_pass (is_member bytes_eq settings.now)) registers.now }
+{
+    registers.iter().all(|register| register_settings_stand(settings, register))
+}
+
+fn requirements_stand(settings: &[Name], requirements: &[Require]) -> bool
+    ensures { result ≡ list_all (λ require. is_member bytes_eq settings.now require.setting) requirements.now }
+{
+    requirements.iter().all(|require| stands_in(settings, &require.setting))
+}
+
+fn words_stand(settings: &[Name], tables: &[TableKind]) -> bool
+    ensures { result ≡ list_all (λ table. is_member bytes_eq settings.now table.word) tables.now }
+{
+    tables.iter().all(|table| stands_in(settings, &table.word))
+}
+
 // Whether the settings that a slice kind names are among its settings.
 fn slice_settings_stand(kind: &SliceKind) -> bool
     ensures { result ≡ rules.slice_settings_pass (is_member bytes_eq kind.now.settings) kind.now }
 {
     let settings = kind.settings.as_slice();
-    kind.require.as_slice().iter().all(|require| stands_in(settings, &require.setting))
-        && kind.tables.as_slice().iter().all(|table| stands_in(settings, &table.word))
-        && kind.registers.as_slice().iter().all(|register| register_settings_stand(settings, register))
+    requirements_stand(settings, kind.require.as_slice())
+        && words_stand(settings, kind.tables.as_slice())
+        && all_registers_stand(settings, kind.registers.as_slice())
 }
 
 // Wires
+
+// Whether the name of a wire begins with a prefix of another chip.
+fn is_other_wire(other_chips: &[Name], wire: &Name) -> bool
+    ensures { result ≡ list_any (λ prefix. starts_with nat_eq wire.now prefix) other_chips.now }
+{
+    other_chips.iter().any(|prefix| wire.bytes().starts_with(prefix.bytes()))
+}
 
 // Whether a wire is of this chip: its name begins with no prefix of another.
 fn is_own_wire(other_chips: &[Name], wire: &Name) -> bool
     ensures { result ≡ rules.is_own_wire other_chips.now wire.now }
 {
-    !other_chips.iter().any(|prefix| wire.bytes().starts_with(prefix.bytes()))
+    !is_other_wire(other_chips, wire)
+}
+
+fn are_own_wires(other_chips: &[Name], wires: &[Name]) -> bool
+    ensures { result ≡ list_all (rules.is_own_wire other_chips.now) wires.now }
+{
+    wires.iter().all(|wire| is_own_wire(other_chips, wire))
 }
 
 fn take_wire_is_own(other_chips: &[Name], take: &Take) -> bool
@@ -78,8 +110,7 @@ fn choice_wires_are_own(other_chips: &[Name], choice: &Choice) -> bool
 fn table_wires_are_own(other_chips: &[Name], table: &TableKind) -> bool
     ensures { result ≡ rules.table_wires_pass (rules.is_own_wire other_chips.now) table.now }
 {
-    table.pins.as_slice().iter().all(|pin| is_own_wire(other_chips, pin))
-        && is_own_wire(other_chips, &table.out)
+    are_own_wires(other_chips, table.pins.as_slice()) && is_own_wire(other_chips, &table.out)
 }
 
 fn register_wires_are_own(other_chips: &[Name], register: &RegisterKind) -> bool
@@ -93,11 +124,23 @@ fn register_wires_are_own(other_chips: &[Name], register: &RegisterKind) -> bool
         && is_own_wire(other_chips, &register.out)
 }
 
+fn all_tables_are_own(other_chips: &[Name], tables: &[TableKind]) -> bool
+    ensures { result ≡ list_all (rules.table_wires_pass (rules.is_own_wire other_chips.now)) tables.now }
+{
+    tables.iter().all(|table| table_wires_are_own(other_chips, table))
+}
+
+fn all_registers_are_own(other_chips: &[Name], registers: &[RegisterKind]) -> bool
+    ensures { result ≡ list_all (rules.register_wires_pass (rules.is_own_wire other_chips.now)) registers.now }
+{
+    registers.iter().all(|register| register_wires_are_own(other_chips, register))
+}
+
 fn slice_wires_are_own(other_chips: &[Name], kind: &SliceKind) -> bool
     ensures { result ≡ rules.slice_wires_pass (rules.is_own_wire other_chips.now) kind.now }
 {
-    kind.tables.as_slice().iter().all(|table| table_wires_are_own(other_chips, table))
-        && kind.registers.as_slice().iter().all(|register| register_wires_are_own(other_chips, register))
+    all_tables_are_own(other_chips, kind.tables.as_slice())
+        && all_registers_are_own(other_chips, kind.registers.as_slice())
 }
 
 fn pad_wires_are_own(other_chips: &[Name], kind: &PadKind) -> bool
@@ -131,6 +174,15 @@ fn is_pad(kinds: &[PadKind], tile: &Name, name: &Name) -> bool
     kinds.iter().any(|kind| *tile == kind.tile && *name == kind.name)
 }
 
+// Whether a kind has this tile type and name.
+#[tactic(auto, using(crate::proofs::KindNames::member_of_either))]
+fn is_kind(slices: &[SliceKind], pads: &[PadKind], tile: &Name, name: &Name) -> bool
+    ensures { result ≡ is_member rules.same_kind
+        (map rules.slice_name slices.now ++ map rules.pad_name pads.now) (tile.now, name.now) }
+{
+    is_slice(slices, tile, name) || is_pad(pads, tile, name)
+}
+
 // Whether tables have as many pins as others, each in turn.
 fn same_pin_counts(tables: &[TableKind], others: &[TableKind]) -> bool
     ensures { result ≡ pointwise nat_eq (map (λ table. length table.pins) tables.now)
@@ -159,11 +211,18 @@ fn same_counts(first: &SliceKind, kind: &SliceKind) -> bool
         && first.registers.len() == kind.registers.len()
 }
 
+// The first kind of a shape.
+fn first_of_shape<'a>(kinds: &'a [SliceKind], shape: &Name) -> Option<&'a SliceKind>
+    ensures { option_copied result ≡ find (λ kind. bytes_eq shape.now kind.shape) kinds.now }
+{
+    kinds.iter().find(|kind| *shape == kind.shape)
+}
+
 // Whether a kind has the counts of the first kind of its shape.
 fn has_counts_of_shape(earlier: &[SliceKind], kind: &SliceKind) -> bool
     ensures { result ≡ rules.has_counts_of_shape earlier.now kind.now }
 {
-    match earlier.iter().find(|other| kind.shape == other.shape) {
+    match first_of_shape(earlier, &kind.shape) {
         Some(first) => same_counts(first, kind),
         None => true,
     }
@@ -192,13 +251,24 @@ pub(crate) fn parts_fit(kind: &SliceKind) -> bool
     kind.tables.len() <= MOST_PARTS && kind.registers.len() <= MOST_PARTS
 }
 
+fn takes_in(cases: &[Case]) -> bool
+    ensures { result ≡ list_any rules.takes_in cases.now }
+{
+    cases.iter().any(|case| matches!(&case.take, Take::In))
+}
+
+fn takes_out(cases: &[Case]) -> bool
+    ensures { result ≡ list_any rules.takes_out cases.now }
+{
+    cases.iter().any(|case| matches!(&case.take, Take::Out))
+}
+
 // Whether a pad that may be an input, or an output, has the wire for it.
 fn has_wires_of_modes(kind: &PadKind) -> bool
     ensures { result ≡ rules.has_wires_of_modes kind.now }
 {
     let cases = kind.mode.cases.as_slice();
-    (!cases.iter().any(|case| matches!(&case.take, Take::In)) || kind.in_wire.is_some())
-        && (!cases.iter().any(|case| matches!(&case.take, Take::Out)) || kind.out_wire.is_some())
+    (!takes_in(cases) || kind.in_wire.is_some()) && (!takes_out(cases) || kind.out_wire.is_some())
 }
 
 /// Whether a pad kind keeps the rules behind other kinds: its setting and wires, the wires of its modes, and a new
@@ -210,6 +280,5 @@ pub(crate) fn pad_keeps_rules(other_chips: &[Name], slices: &[SliceKind], earlie
     choice_setting_stands(kind.settings.as_slice(), &kind.mode)
         && pad_wires_are_own(other_chips, kind)
         && has_wires_of_modes(kind)
-        && !is_slice(slices, &kind.tile, &kind.name)
-        && !is_pad(earlier, &kind.tile, &kind.name)
+        && !is_kind(slices, earlier, &kind.tile, &kind.name)
 }
