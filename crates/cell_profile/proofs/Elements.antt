@@ -1,5 +1,6 @@
 -- A list is read one element after another, each behind those before it: the first element, then the rest.
-use Rattle.std.proofs.Common.{◌≡◌, ℕ, List, [], ◌∷◌, ◌++◌, length, Option, Some, None, Result, Ok, Err, refl, ap, sym, ◌∙◌, append_assoc}
+use Rattle.std.proofs.Common.{◌≡◌, ℕ, ◌+◌, ◌<◌, ◌≤◌, List, [], ◌∷◌, ◌++◌, length, map, take, drop, get_or, Option, Some, None, Result, Ok, Err, refl, ap, sym, ◌∙◌, append_assoc, arith}
+use Rattle.std.proofs.lemmas.List.{take_more, drop_more, map-append, length-map, length-take-le, length_push}
 use Rattle.std.specs.Option.{ok_or}
 use Rattle.std.specs.List.{filter_map, cons_option}
 use Rattle.std.proofs.lemmas.List.Elements.{filter_map-append}
@@ -35,10 +36,20 @@ rest_read-cons : {Y : Type 0} (name : List ℕ) (form : Data → Option Y) (judg
 rest_read-cons name form judge before d ds values found number =
     rw (found, number) (first_then_rest (element_key name (length values)) judge values (form d) (first_fault_after (element_fault name form judge) (before ++ d ∷ []) ds) (filter_map form ds))
 
+behind_nothing : {Y : Type 0} (rest : Result (List Y) FormFault) → behind [] rest ≡ rest
+behind_nothing (Ok ys) = refl
+behind_nothing (Err e) = refl
+
 behind_value : {Y : Type 0} (values : List Y) (y : Y) (rest : Result (List Y) FormFault)
     → behind values (rest >>= λ ys. Ok (y ∷ ys)) ≡ behind (values ++ y ∷ []) rest
 behind_value values y (Ok ys) = ap Ok (sym (append_assoc values (y ∷ []) ys))
 behind_value values y (Err e) = refl
+
+-- before the first element
+pub none_yet : {Y : Type 0} (name : List ℕ) (form : Data → Option Y) (judge : List Y → Y → Verdict) (ds : List Data)
+    → behind [] (rest_read name form judge [] ds) ≡ elements_read name form judge ds
+unfolding elements_read
+none_yet name form judge ds = behind_nothing (rest_read name form judge [] ds)
 
 -- an element with a value
 pub one_more_read : {Y : Type 0} (name : List ℕ) (form : Data → Option Y) (judge : List Y → Y → Verdict) (before : List Data) (d : Data) (ds : List Data) (values : List Y) (y : Y)
@@ -72,3 +83,36 @@ read_has_form name form judge earlier d y e = found_of_read (element_key name (l
 pub found_more : {Y : Type 0} (form : Data → Option Y) (before : List Data) (d : Data) (values : List Y) (y : Y)
     → filter_map form before ≡ values → form d ≡ Some y → filter_map form (before ++ d ∷ []) ≡ values ++ y ∷ []
 found_more form before d values y found e = rw (filter_map-append form before (d ∷ []), found, e) refl
+
+-- the elements that stand for the first values of a list, with one more
+seen_more : {V : Type 0} (view : V → Data) (all : List V) (i : ℕ) (v : V) → i < length all → v ≡ get_or all i v
+    → map view (take (i + 1) all) ≡ map view (take i all) ++ view v ∷ []
+seen_more view all i v within is = rw (take_more all i v within, ← is) (map-append view (take i all) (v ∷ []))
+
+left_less : {V : Type 0} (view : V → Data) (all : List V) (i : ℕ) (v : V) → i < length all → v ≡ get_or all i v
+    → map view (drop i all) ≡ view v ∷ map view (drop (i + 1) all)
+left_less view all i v within is = rw (drop_more all i v within, ← is) refl
+
+seen_count : {V : Type 0} (view : V → Data) (all : List V) (i : ℕ) → i ≤ length all → length (map view (take i all)) ≡ i
+seen_count view all i within = simp length-map (length-take-le i all within)
+
+-- The elements read up to a place of a list of values, and what is left.
+pub record IsReadUpTo {V Y : Type 0} (view : V → Data) (name : List ℕ) (form : Data → Option Y) (judge : List Y → Y → Verdict) (all : List V) (i : ℕ) (values : List Y) : Type 0 where
+  pub found : filter_map form (map view (take i all)) ≡ values
+  pub count : i ≡ length values
+  pub rest : behind values (rest_read name form judge (map view (take i all)) (map view (drop i all))) ≡ elements_read name form judge (map view all)
+
+-- one element further
+pub one_further : {V Y : Type 0} (view : V → Data) (name : List ℕ) (form : Data → Option Y) (judge : List Y → Y → Verdict) (all : List V) (i : ℕ) (v : V) (values : List Y) (y : Y)
+    → i < length all → v ≡ get_or all i v → IsReadUpTo view name form judge all i values → element_read name form judge values (view v) ≡ Ok y
+    → IsReadUpTo view name form judge all (i + 1) (values ++ y ∷ [])
+one_further view name form judge all i v values y within is so_far read =
+    let seen : map view (take (i + 1) all) ≡ map view (take i all) ++ view v ∷ [] = seen_more view all i v within is in
+    let left : map view (drop i all) ≡ view v ∷ map view (drop (i + 1) all) = left_less view all i v within is in
+    let number : length (map view (take i all)) ≡ length values = seen_count view all i (omega arith) ∙ so_far.count in
+    let step = one_more_read name form judge (map view (take i all)) (view v) (map view (drop (i + 1) all)) values y so_far.found number read in
+    record {
+      found = rw seen (found_more form (map view (take i all)) (view v) values y so_far.found (read_has_form name form judge values (view v) y read));
+      count = rw so_far.count (sym (length_push values y));
+      rest = rw seen (sym step ∙ rw left at so_far.rest);
+    }
