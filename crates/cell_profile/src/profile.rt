@@ -4,10 +4,11 @@ ghost use Rattle.std.specs.Prelude.{codes};
 ghost use Rattle.std.specs.Option.{ok_or};
 ghost use Rattle.serde_json.specs.View.{view};
 ghost use Rattle.words.specs.OrMemory.{OrMemory};
-ghost use Rattle.json_forms.specs.Values.{member_in};
+ghost use Rattle.json_forms.specs.Values.{member_in, name_in};
 ghost use Rattle.json_forms.specs.Parts.{name_or_empty_in};
 ghost use Rattle.json_forms.specs.Faults as form;
-ghost use Rattle.json_forms.specs.Profile.{profile_of, profile_of_value as profile_of_value_spec};
+ghost use Rattle.json_forms.specs.Kinds.{join_in, slice_in, pad_in};
+ghost use Rattle.json_forms.specs.Profile.{list_read, any_form, slice_verdict, pad_verdict, profile_of, profile_of_value as profile_of_value_spec};
 ghost use Rattle.json_values.specs.Reads.{Reads};
 ghost use Rattle.cell_profile.specs.Faults.{fault_of};
 
@@ -58,24 +59,50 @@ fn chip_prefix(alloc: Global, file: &Value) -> Result<Option<Name>, ProfileError
     }
 }
 
+// The names that a member lists.
+fn names(alloc: Global, file: &Value, member: &str) -> Result<List<Name>, ProfileError>
+    ensures { OrMemory (λ names. names) fault_of result
+        (list_read member.now name_in any_form (view file.now)) }
+{
+    read_list::<Name, AnyForm>(alloc, file, member, &AnyForm)
+}
+
+// The connections that are always there.
+fn joins(alloc: Global, file: &Value) -> Result<List<Join>, ProfileError>
+    ensures { OrMemory (λ joins. joins) fault_of result
+        (list_read (codes "joins") join_in any_form (view file.now)) }
+{
+    read_list::<Join, AnyForm>(alloc, file, "joins", &AnyForm)
+}
+
+// The kinds of slices.
+fn slices(alloc: Global, file: &Value, other_chips: &[Name]) -> Result<List<SliceKind>, ProfileError>
+    ensures { OrMemory (λ kinds. kinds) fault_of result
+        (list_read (codes "slices") slice_in (slice_verdict other_chips.now) (view file.now)) }
+{
+    read_list::<SliceKind, SliceJudge>(alloc, file, "slices", &SliceJudge { other_chips })
+}
+
+// The kinds of pads, which stand behind those of slices.
+fn pads(alloc: Global, file: &Value, other_chips: &[Name], slices: &[SliceKind]) -> Result<List<PadKind>, ProfileError>
+    ensures { OrMemory (λ kinds. kinds) fault_of result
+        (list_read (codes "pads") pad_in (pad_verdict other_chips.now slices.now) (view file.now)) }
+{
+    let judge = PadJudge { other_chips, slices };
+    read_list::<PadKind, PadJudge>(alloc, file, "pads", &judge)
+}
+
 // The profile that an object is.
 #[tactic(auto, unfolding(json_forms::specs::Profile::profile_of_value))]
 fn profile_of_value(alloc: Global, file: &Value) -> Result<Profile, ProfileError>
     ensures { OrMemory (λ profile. profile) fault_of result (profile_of_value_spec (view file.now)) }
 {
     let chip_prefix = chip_prefix(alloc, file)?;
-    let other_chips = read_list::<Name, AnyForm>(alloc, file, "other_chips", &AnyForm)?;
-    let wide = read_list::<Name, AnyForm>(alloc, file, "wide", &AnyForm)?;
-    let joins = read_list::<Join, AnyForm>(alloc, file, "joins", &AnyForm)?;
-    let slice_judge = SliceJudge {
-        other_chips: other_chips.as_slice(),
-    };
-    let slices = read_list::<SliceKind, SliceJudge>(alloc, file, "slices", &slice_judge)?;
-    let pad_judge = PadJudge {
-        other_chips: other_chips.as_slice(),
-        slices: slices.as_slice(),
-    };
-    let pads = read_list::<PadKind, PadJudge>(alloc, file, "pads", &pad_judge)?;
+    let other_chips = names(alloc, file, "other_chips")?;
+    let wide = names(alloc, file, "wide")?;
+    let joins = joins(alloc, file)?;
+    let slices = slices(alloc, file, other_chips.as_slice())?;
+    let pads = pads(alloc, file, other_chips.as_slice(), slices.as_slice())?;
     let rules = Rules {
         chip_prefix,
         other_chips,
