@@ -62,7 +62,12 @@ fn case_value(alloc: Global, has_setting: bool, text: &str) -> Result<Option<Nam
 }
 
 // The case that a value is.
-fn read_case(alloc: Global, purpose: Purpose, has_setting: bool, value: &Value) -> Result<Case, FormError>
+fn read_case(
+    alloc: Global,
+    purpose: Purpose,
+    has_setting: bool,
+    value: &Value,
+) -> Result<Case, FormError>
     ensures { Reads (λ case. case) result
         (choices.case_in has_setting (take_for purpose) (view value.now)) }
 {
@@ -98,7 +103,11 @@ fn is_case_count(has_setting: bool, count: usize) -> bool
 
 /// The choice that a value is.
 #[tactic(auto, unfolding(json_forms::specs::Choices::choice_in))]
-pub(crate) fn read_choice(alloc: Global, purpose: Purpose, value: &Value) -> Result<Choice, FormError>
+pub(crate) fn read_choice(
+    alloc: Global,
+    purpose: Purpose,
+    value: &Value,
+) -> Result<Choice, FormError>
     ensures { Reads (λ choice. choice) result (choices.choice_in (take_for purpose) (view value.now)) }
 {
     let (setting, values) = json_values::pair(value)?;

@@ -50,7 +50,7 @@ fn name_member(alloc: Global, file: &Value, name: &str) -> Result<Option<Name>, 
 fn chip_prefix(alloc: Global, file: &Value) -> Result<Option<Name>, ProfileError>
     ensures { OrMemory (λ prefix. prefix) fault_of result
         (ok_or (member_in (codes "chip_prefix") name_or_empty_in (view file.now))
-            (form.FormFault.BadShape (codes "chip_prefix"))) }
+        (form.FormFault.BadShape (codes "chip_prefix"))) }
 {
     match name_member(alloc, file, "chip_prefix") {
         Ok(prefix) => Ok(prefix),
@@ -76,7 +76,11 @@ fn joins(alloc: Global, file: &Value) -> Result<List<Join>, ProfileError>
 }
 
 // The kinds of slices.
-fn slices(alloc: Global, file: &Value, other_chips: &[Name]) -> Result<List<SliceKind>, ProfileError>
+fn slices(
+    alloc: Global,
+    file: &Value,
+    other_chips: &[Name],
+) -> Result<List<SliceKind>, ProfileError>
     ensures { OrMemory (λ kinds. kinds) fault_of result
         (list_read (codes "slices") slice_in (slice_verdict other_chips.now) (view file.now)) }
 {
@@ -84,11 +88,19 @@ fn slices(alloc: Global, file: &Value, other_chips: &[Name]) -> Result<List<Slic
 }
 
 // The kinds of pads, which stand behind those of slices.
-fn pads(alloc: Global, file: &Value, other_chips: &[Name], slices: &[SliceKind]) -> Result<List<PadKind>, ProfileError>
+fn pads(
+    alloc: Global,
+    file: &Value,
+    other_chips: &[Name],
+    slices: &[SliceKind],
+) -> Result<List<PadKind>, ProfileError>
     ensures { OrMemory (λ kinds. kinds) fault_of result
         (list_read (codes "pads") pad_in (pad_verdict other_chips.now slices.now) (view file.now)) }
 {
-    let judge = PadJudge { other_chips, slices };
+    let judge = PadJudge {
+        other_chips,
+        slices,
+    };
     read_list::<PadKind, PadJudge>(alloc, file, "pads", &judge)
 }
 

@@ -44,13 +44,17 @@ fn register_settings_stand(settings: &[Name], register: &RegisterKind) -> bool
 fn all_registers_stand(settings: &[Name], registers: &[RegisterKind]) -> bool
     ensures { result ≡ list_all (rules.register_settings_pass (is_member bytes_eq settings.now)) registers.now }
 {
-    registers.iter().all(|register| register_settings_stand(settings, register))
+    registers
+        .iter()
+        .all(|register| register_settings_stand(settings, register))
 }
 
 fn requirements_stand(settings: &[Name], requirements: &[Require]) -> bool
     ensures { result ≡ list_all (λ require. is_member bytes_eq settings.now require.setting) requirements.now }
 {
-    requirements.iter().all(|require| stands_in(settings, &require.setting))
+    requirements
+        .iter()
+        .all(|require| stands_in(settings, &require.setting))
 }
 
 fn words_stand(settings: &[Name], tables: &[TableKind]) -> bool
@@ -75,7 +79,9 @@ fn slice_settings_stand(kind: &SliceKind) -> bool
 fn is_other_wire(other_chips: &[Name], wire: &Name) -> bool
     ensures { result ≡ list_any (λ prefix. starts_with nat_eq wire.now prefix) other_chips.now }
 {
-    other_chips.iter().any(|prefix| wire.bytes().starts_with(prefix.bytes()))
+    other_chips
+        .iter()
+        .any(|prefix| wire.bytes().starts_with(prefix.bytes()))
 }
 
 // Whether a wire is of this chip: its name begins with no prefix of another.
@@ -104,7 +110,11 @@ fn take_wire_is_own(other_chips: &[Name], take: &Take) -> bool
 fn choice_wires_are_own(other_chips: &[Name], choice: &Choice) -> bool
     ensures { result ≡ rules.choice_wires_pass (rules.is_own_wire other_chips.now) choice.now }
 {
-    choice.cases.as_slice().iter().all(|case| take_wire_is_own(other_chips, &case.take))
+    choice
+        .cases
+        .as_slice()
+        .iter()
+        .all(|case| take_wire_is_own(other_chips, &case.take))
 }
 
 fn table_wires_are_own(other_chips: &[Name], table: &TableKind) -> bool
@@ -127,13 +137,17 @@ fn register_wires_are_own(other_chips: &[Name], register: &RegisterKind) -> bool
 fn all_tables_are_own(other_chips: &[Name], tables: &[TableKind]) -> bool
     ensures { result ≡ list_all (rules.table_wires_pass (rules.is_own_wire other_chips.now)) tables.now }
 {
-    tables.iter().all(|table| table_wires_are_own(other_chips, table))
+    tables
+        .iter()
+        .all(|table| table_wires_are_own(other_chips, table))
 }
 
 fn all_registers_are_own(other_chips: &[Name], registers: &[RegisterKind]) -> bool
     ensures { result ≡ list_all (rules.register_wires_pass (rules.is_own_wire other_chips.now)) registers.now }
 {
-    registers.iter().all(|register| register_wires_are_own(other_chips, register))
+    registers
+        .iter()
+        .all(|register| register_wires_are_own(other_chips, register))
 }
 
 fn slice_wires_are_own(other_chips: &[Name], kind: &SliceKind) -> bool
@@ -164,14 +178,18 @@ fn wire_is_own(other_chips: &[Name], wire: &Option<Name>) -> bool
 fn is_slice(kinds: &[SliceKind], tile: &Name, name: &Name) -> bool
     ensures { result ≡ is_member rules.same_kind (map rules.slice_name kinds.now) (tile.now, name.now) }
 {
-    kinds.iter().any(|kind| *tile == kind.tile && *name == kind.name)
+    kinds
+        .iter()
+        .any(|kind| *tile == kind.tile && *name == kind.name)
 }
 
 // Whether a pad kind has this tile type and name.
 fn is_pad(kinds: &[PadKind], tile: &Name, name: &Name) -> bool
     ensures { result ≡ is_member rules.same_kind (map rules.pad_name kinds.now) (tile.now, name.now) }
 {
-    kinds.iter().any(|kind| *tile == kind.tile && *name == kind.name)
+    kinds
+        .iter()
+        .any(|kind| *tile == kind.tile && *name == kind.name)
 }
 
 // Whether a kind has this tile type and name.
@@ -232,7 +250,11 @@ fn has_counts_of_shape(earlier: &[SliceKind], kind: &SliceKind) -> bool
 
 /// Whether a slice kind keeps the rules behind others: its settings and wires, a new name, and the counts of its
 /// shape.
-pub(crate) fn slice_keeps_rules(other_chips: &[Name], earlier: &[SliceKind], kind: &SliceKind) -> bool
+pub(crate) fn slice_keeps_rules(
+    other_chips: &[Name],
+    earlier: &[SliceKind],
+    kind: &SliceKind,
+) -> bool
     ensures { result ≡ rules.slice_keeps_rules other_chips.now earlier.now kind.now }
 {
     slice_settings_stand(kind)
@@ -273,7 +295,12 @@ fn has_wires_of_modes(kind: &PadKind) -> bool
 
 /// Whether a pad kind keeps the rules behind other kinds: its setting and wires, the wires of its modes, and a new
 /// name.
-pub(crate) fn pad_keeps_rules(other_chips: &[Name], slices: &[SliceKind], earlier: &[PadKind], kind: &PadKind) -> bool
+pub(crate) fn pad_keeps_rules(
+    other_chips: &[Name],
+    slices: &[SliceKind],
+    earlier: &[PadKind],
+    kind: &PadKind,
+) -> bool
     ensures { result ≡ rules.pad_keeps_rules other_chips.now
         (map rules.slice_name slices.now ++ map rules.pad_name earlier.now) kind.now }
 {

@@ -6,13 +6,13 @@ use Rattle.cell_profile.proofs.profile.profile_of_value.Goals as goal
 
 pub returns-in_err-other_chips : goal.returns-in_err-other_chips
 unfolding profile_of_value
-returns-in_err-other_chips c = 
+returns-in_err-other_chips c =
     let is : c.from_residual-in_err-other_chips.result ≡ Err c.in_err-other_chips.field-0.0 = search rules in
     rw c.in_ok-chip_prefix.ensures (refused _ fault_of _ _ _ c.in_err-other_chips.field-0.0 is c.in_err-other_chips.ensures)
 
 pub returns-in_err-wide : goal.returns-in_err-wide
 unfolding profile_of_value
-returns-in_err-wide c = 
+returns-in_err-wide c =
     let is : c.from_residual-in_err-wide.result ≡ Err c.in_err-wide.field-0.0 = search rules in
     rw (c.in_ok-chip_prefix.ensures, c.in_ok-other_chips.ensures) (refused _ fault_of _ _ _ c.in_err-wide.field-0.0 is c.in_err-wide.ensures)
 
