@@ -19,10 +19,10 @@ use Rattle.attempts.specs.Candidates.{place_of, distance, site_cmp}
 use Rattle.fabric_laws.proofs.Orders.{first_ties, second_ties, name_same}
 use Rattle.fabric_laws.proofs.Sorted.{determined}
 
-part_total : IsTotalOrder part_cmp
+pub part_total : IsTotalOrder part_cmp
 part_total = then_total (on_total (λ p. p.cell) nat_list_cmp_total) (then_total (on_total (λ p. rank_of p.part) nat_cmp_total) (on_total (λ p. number_of p.part) nat_cmp_total))
 
-pin_total : IsTotalOrder pin_cmp
+pub pin_total : IsTotalOrder pin_cmp
 pin_total = then_total (on_total (λ p. p.part) part_total) (on_total (λ p. p.pin) nat_cmp_total)
 
 connection_total : (cells : Cells) → IsTotalOrder (connection_cmp cells)
