@@ -116,6 +116,7 @@ module _ (device : Device) (named_once : NamesOnce device) (read : Circuit) (rim
       ready = ready_after device named_once read y sound.ready sound.safe sound.agree net_path [] are_paths;
       safe = safe_after device named_once read y sound.ready sound.safe sound.agree net_path [] are_paths;
       agree = agree_after device named_once read y sound.ready sound.safe sound.agree net_path [] are_paths;
+      sides = sound.sides;
       alike = sound.alike;
       none_new = none_new;
       there = there;

@@ -70,6 +70,7 @@ module _ (job : Job) (ready : IsReady job.device (configured job.design)) (agree
     };
     safe = subst (λ y. IsSafe (configured y)) (sym same) safe;
     agree = kept.agree;
+    sides = record { slices = refl; pads = refl; triples = refl; inputs = refl; outputs = refl; clocks = refl; voters = refl };
     alike = refl;
     none_new = none_new;
     there = there;

@@ -8,13 +8,15 @@ ghost use Rattle.attempts.specs.Jobs.{Job, read_of, State};
 ghost use Rattle.attempts.specs.Starts.{IsStart};
 ghost use Rattle.attempts.specs.Turns.{ComesOut, Complete};
 ghost use Rattle.circuit.specs.Circuits.{Circuit, Connection};
+ghost use Rattle.circuit.specs.Designs.{SameDesign};
 ghost use Rattle.fabric.specs.Agree.{ArcsAgree};
 ghost use Rattle.fabric.specs.Device.{Device};
 ghost use Rattle.layout_laws.specs.Named.{NamesOnce};
 ghost use Rattle.repair.specs.Layouts.{configured, Layout};
 ghost use Rattle.repair_laws.specs.Ready.{IsReady};
-ghost use Rattle.routed_laws.specs.Sound.{HasSamePlaces, IsSound, MovesStayReady};
+ghost use Rattle.routed_laws.specs.Sound.{HasSamePlaces, IsReadyAnywhere, IsSound, SlicesApart};
 ghost use Rattle.std.specs.Prelude.{List, [], ◌++◌, ℕ};
+ghost use Rattle.upset.specs.Configured.{circuit_of};
 ghost use Rattle.upset.specs.Safe.{IsSafe};
 
 /// A complete attempt over a sound layout leaves a sound one at the same sites, with no connection open.
@@ -37,10 +39,14 @@ pub fn move_is_sound()
         → IsCandidate job state step → IsSound job.device (read_of job) step.layout (state.order ++ step.ripped) }
 {}
 
-/// A complete answer is sound: its layout is clean, safe and agreeing, its cells are those that were read but for their
-/// wires, and its connections are those that were read.
+/// A sound layout with no connection open is the design that was read: the same cells, connected alike.
+pub fn sound_layout_is_the_design()
+    ensures { (device : Device) (read : Circuit) (y : Layout) → IsSound device read y [] → SameDesign read (circuit_of (configured y)) }
+{}
+
+/// A complete answer is sound: its layout is clean, safe and agreeing, and the design that was read.
 pub fn complete_answer_is_sound()
     ensures { (job : Job) (log : List Event) (z : Layout) (count : ℕ) → NamesOnce job.device → IsReady job.device (configured job.design)
-        → ArcsAgree job.design.graph (configured job.design).image job.design.config → MovesStayReady job
+        → ArcsAgree job.design.graph (configured job.design).image job.design.config → SlicesApart job.design.side → IsReadyAnywhere job
         → IsAnswer job (Ended log (Routed z count)) → IsSound job.device (read_of job) z [] }
 {}
