@@ -1,3 +1,4 @@
 pub mod Tests
 pub mod TwoTiles
 pub mod RippedSlice
+pub mod Anywhere
