@@ -41,7 +41,7 @@ module _ {Y : Type 0} (name : List ℕ) (form : Data → Option Y) (judge : List
       go (Some y) e k later =
           let fits = fits_by (element_key name (length before)) (judge (filter_map form before) y) k in
           let grown : filter_map form (before ++ d ∷ []) ≡ filter_map form before ++ y ∷ [] =
-              filter_map-append form before (d ∷ []) ∙ ap (λ o. filter_map form before ++ cons_option o []) e in
+          filter_map-append form before (d ∷ []) ∙ ap (λ o. filter_map form before ++ cons_option o []) e in
           none_or (judged judge (filter_map form before) y) (first_fault_after (judged judge) (filter_map form before ++ y ∷ []) (filter_map form ds))
           (ap (verdict_fault []) fits) (subst (λ front. first_fault_after (judged judge) front (filter_map form ds) ≡ None) grown later)
 
@@ -50,8 +50,7 @@ module _ {Y : Type 0} (name : List ℕ) (form : Data → Option Y) (judge : List
       → (first_fault (judged judge) ys ≡ None) × ((y : Y) → In ys y → (d : Data) × (form d ≡ Some y))
   unfolding elements_read
   elements_judged ds ys h =
-      let n = no_fault (first_fault (element_fault name form judge) ds) (filter_map form ds) ys h in
-      (
+      let n = no_fault (first_fault (element_fault name form judge) ds) (filter_map form ds) ys h in (
         subst (λ zs. first_fault (judged judge) zs ≡ None) n.1 (judged_after [] ds n.0),
         (λ y i. (let r = in_filter_map_from form ds y (subst (λ zs. In zs y) (sym n.1) i) in (r.0, r.2))),
       )

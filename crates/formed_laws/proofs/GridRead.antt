@@ -1,5 +1,5 @@
 -- What a grid says that a reader takes.
-use Rattle.std.proofs.Common.{◌≡◌, ℕ, Bool, true, false, inl, inr, List, [], ◌∷◌, ◌++◌, map, filter_map, Option, Some, None, refl, sym, ap, ap₂, subst, ◌∙◌}
+use Rattle.std.proofs.Common.{◌≡◌, ℕ, Bool, true, false, inl, inr, List, [], ◌∷◌, map, filter_map, Option, Some, None, refl, sym, ap, ap₂, subst}
 use Rattle.std.specs.Prelude.{Result, Ok, Err, codes, if◌then◌else◌}
 use Rattle.std.specs.List.{cons_option}
 use Rattle.std.specs.Result.{result_ok, result_err}
@@ -16,7 +16,7 @@ use Rattle.json_forms.specs.Each.{each_or_fault}
 use Rattle.json_forms.specs.Values.{Member, member_in, if_name, name_in, reading_of, object_in}
 use Rattle.json_forms.specs.Places.{place_of}
 use Rattle.json_forms.specs.Tiles.{tile_number_in, tile_in, place_fits, tile_of}
-use Rattle.json_forms.specs.Grid.{count_fault, grid_with, grid_of_members, top_key, grid_of_value, grid_of}
+use Rattle.json_forms.specs.Grid.{count_fault, grid_with, grid_of_members, top_key}
 use Rattle.fabric.specs.Wires.{name_cmp}
 use Rattle.fabric.specs.InOrder.{IsRising}
 use Rattle.fabric.specs.Graph.{Graph}
@@ -52,7 +52,7 @@ tile_in_named : (m : Member) (t : Tile) → tile_in m ≡ Some t → t.name ≡ 
 unfolding tile_in
 tile_in_named m t h =
     let e = tile_of_parts (if_name m.name) (member_in (codes "type") name_in m.value) (tile_number_in (codes "cols") m.value) (tile_number_in (codes "rows") m.value)
-        (tile_number_in (codes "start_frame") m.value) (tile_number_in (codes "start_bit") m.value) t h in
+    (tile_number_in (codes "start_frame") m.value) (tile_number_in (codes "start_bit") m.value) t h in
     sym (named_so m.name t.name (is_name m.name) e)
 
 -- the tile of a member, where it has one and its place fits

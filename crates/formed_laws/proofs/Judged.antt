@@ -14,8 +14,7 @@ module _ {X Y E : Type 0} (fault : List X → X → Option E) (key : X → Y)
   keys_after before [] h = (tt, (λ y x i j e. j))
   keys_after before (z ∷ zs) h =
       let parts = or_none (fault before z) (first_fault_after fault (before ++ z ∷ []) zs) h in
-      let later = keys_after (before ++ z ∷ []) zs parts.1 in
-      (
+      let later = keys_after (before ++ z ∷ []) zs parts.1 in (
         ((λ i. (let r = of_map key zs (key z) i in later.1 z r.0 (in_right before (z ∷ []) z (inl refl)) r.1.0 (sym r.1.1))), later.0),
         (λ y x i j e. elim j [
           | inl s ↦ sees before y z parts.0 i (subst (λ w. key y ≡ key w) (sym s) e)

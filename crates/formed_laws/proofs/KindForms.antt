@@ -1,6 +1,6 @@
 -- What the form of a slice kind says of its tables.
-use Rattle.std.proofs.Common.{◌≡◌, ◌≤◌, ℕ, Bool, true, false, inl, inr, List, length, Option, Some, None, refl, sym, ap, subst, ◌∙◌}
-use Rattle.std.specs.Prelude.{nat_le, if◌then◌else◌, ◌&&◌, codes}
+use Rattle.std.proofs.Common.{◌≡◌, ◌≤◌, ℕ, Bool, true, false, List, length, Option, Some, None, refl, ap, subst}
+use Rattle.std.specs.Prelude.{nat_le, if◌then◌else◌, codes}
 use Rattle.std.proofs.lemmas.Bool.{and_parts, leb-true}
 use Rattle.serde_json.specs.Data.{Data}
 use Rattle.words.specs.Members.{In}
@@ -55,6 +55,6 @@ pub slice_pins : (d : Data) (k : SliceKind) → slice_in d ≡ Some k → (t : T
 unfolding slice_in
 slice_pins d k h t i =
     let e = tables_of_parts (member_in (codes "tile") name_in d) (member_in (codes "name") name_in d) (member_in (codes "shape") name_in d) (member_in (codes "settings") (list_of name_in) d)
-        (member_in (codes "require") (list_of require_in) d) (member_in (codes "tables") (list_of table_in) d) (member_in (codes "registers") (list_of register_in) d) k h in
+    (member_in (codes "require") (list_of require_in) d) (member_in (codes "tables") (list_of table_in) d) (member_in (codes "registers") (list_of register_in) d) k h in
     let r = of_list table_in (codes "tables") d k.tables e t i in
     table_pins r.0 t r.1

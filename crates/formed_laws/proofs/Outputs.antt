@@ -1,6 +1,6 @@
 -- Each part of a design that is read has a cell output of its own.
-use Rattle.std.proofs.Common.{◌≡◌, ◌⊎◌, ℕ, suc, true, inl, inr, List, [], ◌∷◌, ◌++◌, map, flat_map, Option, Some, None, option_to_list, refl, sym, ap, ap₂, subst, ◌∙◌}
-use Rattle.std.specs.Prelude.{Ok, slice_get, unwrap_or}
+use Rattle.std.proofs.Common.{◌≡◌, ◌⊎◌, ℕ, suc, true, inl, inr, List, [], ◌∷◌, ◌++◌, map, flat_map, Option, Some, option_to_list, refl, sym, ap, ap₂, subst, ◌∙◌}
+use Rattle.std.specs.Prelude.{Ok, slice_get}
 use Rattle.std.specs.Option.{option_map_or}
 use Rattle.std.specs.Str.{bytes_eq}
 use Rattle.std.proofs.lemmas.List.{map-append}
@@ -9,14 +9,13 @@ use Rattle.std.proofs.lemmas.Slice.Eq.{bytes_eq-Decides}
 use Rattle.words.specs.Members.{In}
 use Rattle.records.specs.Grid.{Tile}
 use Rattle.records.specs.Profile.{TakeIn, TableKind, RegisterKind, SliceKind, PadKind}
-use Rattle.records.specs.Side.{Placed}
-use Rattle.fabric.specs.Device.{Device, output_names, slices_at, pads_at, choice_names}
+use Rattle.fabric.specs.Device.{Device, slices_at, pads_at, choice_names}
 use Rattle.fabric.specs.GraphOf.{IsGraph}
 use Rattle.circuit.specs.Cells.{SliceCell, Role, InputPad, OutputPad, ClockPad, PadCell}
 use Rattle.circuit.specs.Parts.{Source, numbered, table_source, register_source, slice_sources, pad_source_by, pad_sources, sources}
 use Rattle.circuit.specs.WellFormed.{OutputsApart}
 use Rattle.cells.specs.Sites.{Site}
-use Rattle.cells.specs.Standing.{SliceStandsAt, PadStandsAt, slice_wires, pad_wires}
+use Rattle.cells.specs.Standing.{SliceStandsAt, PadStandsAt, slice_wires}
 use Rattle.cells.specs.Takes.{wire_at, suits}
 use Rattle.cells.specs.Resolved.{table_cell, register_cell, role_of, pad_wire}
 use Rattle.cells.specs.CellsOf.{IsSliceOf, IsPadOf, cells_of}
@@ -176,7 +175,7 @@ module _ (device : Device) (k : Configured) (apart : IsApart k.side) (fit : IsFi
       let listed : In (pad_outs a.site.kind) name.0 = subst (λ o. In (option_to_list o) name.0) (sym name.1) (inl refl) in
       let there : number device k.graph a.site.tile name.0 ≡ Some (wire a.site.tile name.0) = pad_numbered c a name.0 listed in
       let out : wire a.site.tile name.0 ≡ s.out =
-          ap (λ (o : Option (List ℕ)). option_map_or (wire a.site.tile) o 0) (sym (in_wire_of role a.site.kind drives ∙ name.1)) ∙ ap (λ (p : PadCell). p.wire) a.cell ∙ sym d.0 in
+      ap (λ (o : Option (List ℕ)). option_map_or (wire a.site.tile) o 0) (sym (in_wire_of role a.site.kind drives ∙ name.1)) ∙ ap (λ (p : PadCell). p.wire) a.cell ∙ sym d.0 in
       subst (In (pad_outputs device k.graph a.site.tile a.site.kind)) out
       (in_filter_map_to (number device k.graph a.site.tile) (pad_outs a.site.kind) name.0 (wire a.site.tile name.0) listed there)
 
@@ -206,13 +205,13 @@ module _ (device : Device) (k : Configured) (apart : IsApart k.side) (fit : IsFi
       let same : a.site.tile ≡ tile = one_tile a.site.number b.site.number a.site.tile tile s.out (slice_tile c a) (slice_tile d b) in_a in_b in
       let once = left_part (flat_map (slice_outputs device k.graph tile) (slices_at device tile)) (flat_map (pad_outputs device k.graph tile) (pads_at device tile)) (tile_once b.site.number tile (slice_tile d b)) in
       let kind : a.site.kind ≡ b.site.kind = one_giver (slice_outputs device k.graph tile) (slices_at device tile) once a.site.kind b.site.kind s.out
-          (subst (λ t. In (slices_at device t) a.site.kind) same (slice_kind_here c a)) (slice_kind_here d b)
-          (subst (λ t. In (slice_outputs device k.graph t a.site.kind) s.out) same (slice_output c a s i))
-          (subst (In (slice_outputs device k.graph tile b.site.kind)) (sym e) (slice_output d b u j)) in
+      (subst (λ t. In (slices_at device t) a.site.kind) same (slice_kind_here c a)) (slice_kind_here d b)
+      (subst (λ t. In (slice_outputs device k.graph t a.site.kind) s.out) same (slice_output c a s i))
+      (subst (In (slice_outputs device k.graph tile b.site.kind)) (sym e) (slice_output d b u j)) in
       let st = slice_stands c a in
       let sv = slice_stands d b in
       let one : a.placed ≡ b.placed = placed.one_site device k apart made a.placed b.placed (placed.in_slices device k apart made a.placed a.listed) (placed.in_slices device k apart made b.placed b.listed)
-          (sym st.tile_name ∙ ap (λ (t : Tile). t.name) same ∙ sv.tile_name) (sym st.kind_name ∙ ap (λ (q : SliceKind). q.name) kind ∙ sv.kind_name) in
+      (sym st.tile_name ∙ ap (λ (t : Tile). t.name) same ∙ sv.tile_name) (sym st.kind_name ∙ ap (λ (q : SliceKind). q.name) kind ∙ sv.kind_name) in
       let cells : c ≡ d = placed.one_slice device k apart made c d a b one in
       let outs_once = subst HasNoneTwice (sym (source_outs d b)) (part_of_all (slice_outputs device k.graph tile) (slices_at device tile) once b.site.kind (slice_kind_here d b)) in
       one_of_key (λ (x : Source). x.out) (slice_sources d) outs_once s u (subst (λ (x : SliceCell). In (slice_sources x) s) cells i) j e
@@ -225,13 +224,13 @@ module _ (device : Device) (k : Configured) (apart : IsApart k.side) (fit : IsFi
       let same : a.site.tile ≡ tile = one_tile a.site.number b.site.number a.site.tile tile s.out (pad_tile c a) (pad_tile d b) in_a in_b in
       let once = right_part (flat_map (slice_outputs device k.graph tile) (slices_at device tile)) (flat_map (pad_outputs device k.graph tile) (pads_at device tile)) (tile_once b.site.number tile (pad_tile d b)) in
       let kind : a.site.kind ≡ b.site.kind = one_giver (pad_outputs device k.graph tile) (pads_at device tile) once a.site.kind b.site.kind s.out
-          (subst (λ t. In (pads_at device t) a.site.kind) same (pad_kind_here c a)) (pad_kind_here d b)
-          (subst (λ t. In (pad_outputs device k.graph t a.site.kind) s.out) same (pad_output c a s i))
-          (subst (In (pad_outputs device k.graph tile b.site.kind)) (sym e) (pad_output d b u j)) in
+      (subst (λ t. In (pads_at device t) a.site.kind) same (pad_kind_here c a)) (pad_kind_here d b)
+      (subst (λ t. In (pad_outputs device k.graph t a.site.kind) s.out) same (pad_output c a s i))
+      (subst (In (pad_outputs device k.graph tile b.site.kind)) (sym e) (pad_output d b u j)) in
       let st = pad_stands c a in
       let sv = pad_stands d b in
       let one : a.placed ≡ b.placed = placed.one_site device k apart made a.placed b.placed (placed.in_pads device k apart made a.placed a.listed) (placed.in_pads device k apart made b.placed b.listed)
-          (sym st.tile_name ∙ ap (λ (t : Tile). t.name) same ∙ sv.tile_name) (sym st.kind_name ∙ ap (λ (q : PadKind). q.name) kind ∙ sv.kind_name) in
+      (sym st.tile_name ∙ ap (λ (t : Tile). t.name) same ∙ sv.tile_name) (sym st.kind_name ∙ ap (λ (q : PadKind). q.name) kind ∙ sv.kind_name) in
       let cells : c ≡ d = placed.one_pad device k apart made c d a b one in
       one_source d d.role s u (subst (λ (x : PadCell). In (pad_sources x) s) cells i) j
 

@@ -1,19 +1,18 @@
 -- Each placed cell of a side file that is read makes one cell, and each cell is made of one.
-use Rattle.std.proofs.Common.{◌≡◌, ◌⊎◌, ℕ, true, false, inl, inr, List, [], ◌∷◌, ◌++◌, map, flat_map, Option, Some, None, refl, sym, ap, ap₂, subst, ◌∙◌}
+use Rattle.std.proofs.Common.{◌≡◌, ◌⊎◌, ℕ, true, false, inl, inr, List, ◌++◌, map, refl, sym, ap, ap₂, subst, ◌∙◌}
 use Rattle.std.specs.Prelude.{Ok, if◌then◌else◌}
 use Rattle.std.specs.List.{list_any}
 use Rattle.std.specs.Str.{bytes_eq}
 use Rattle.std.proofs.lemmas.Option.{same_Some}
 use Rattle.std.proofs.lemmas.Slice.Eq.{bytes_eq-Decides}
 use Rattle.words.specs.Members.{In}
-use Rattle.records.specs.Profile.{SliceKind, PadKind}
 use Rattle.records.specs.Side.{Domain, D0, D1, D2, Placed, Triple, Side}
 use Rattle.fabric.specs.Device.{Device}
 use Rattle.circuit.specs.Cells.{SliceCell, Role, InputPad, OutputPad, ClockPad, PadCell}
-use Rattle.circuit.specs.Triples.{names_of, IsEntry, is_entry, all_triples, Member, members, LiesIn}
+use Rattle.circuit.specs.Triples.{names_of, IsEntry, is_entry, all_triples, Member, LiesIn}
 use Rattle.circuit.specs.WellFormed.{NamesApart, IsSlice, IsPad, TriplesFit}
 use Rattle.circuit.specs.Triplicated.{EntriesInDomain}
-use Rattle.cells.specs.Sites.{Site, slice_site, pad_site}
+use Rattle.cells.specs.Sites.{slice_site, pad_site}
 use Rattle.cells.specs.Resolved.{slice_cell, role_of, pad_cell}
 use Rattle.cells.specs.Accepted.{IsAccepted}
 use Rattle.cells.specs.CellsOf.{IsSliceOf, IsPadOf, cells_of}

@@ -1,5 +1,5 @@
 -- The bits of a cell are bits of words and enums.
-use Rattle.std.proofs.Common.{◌≡◌, ℕ, suc, zero, inl, inr, List, [], ◌∷◌, ◌++◌, map, flat_map, find, Option, Some, None, refl, sym, ap, ap₂, subst, ◌∙◌}
+use Rattle.std.proofs.Common.{◌≡◌, ℕ, suc, zero, inl, inr, List, [], ◌∷◌, map, flat_map, Option, Some, None, refl, ap₂, subst}
 use Rattle.std.specs.Prelude.{slice_get, unwrap_or, zip}
 use Rattle.std.specs.Option.{option_map_or}
 use Rattle.std.specs.Str.{bytes_eq}

@@ -1,23 +1,22 @@
 -- What a side file says that a reader takes.
-use Rattle.std.proofs.Common.{◌≡◌, ℕ, Bool, true, false, not, inl, inr, List, [], ◌∷◌, ◌++◌, map, flat_map, find, Option, Some, None, option_map, cond, refl, sym, ap, subst, ◌∙◌, append_assoc}
-use Rattle.std.specs.Prelude.{Result, Ok, Err, ◌&&◌, ◌||◌, if◌then◌else◌}
+use Rattle.std.proofs.Common.{◌≡◌, ℕ, Bool, true, false, not, inl, inr, List, [], ◌∷◌, ◌++◌, map, flat_map, find, Option, Some, None, option_map, refl, sym, ap, subst, append_assoc}
+use Rattle.std.specs.Prelude.{◌&&◌, ◌||◌, if◌then◌else◌}
 use Rattle.std.specs.List.{list_any}
 use Rattle.std.specs.Option.{ok_or}
 use Rattle.std.specs.Set.{is_member}
 use Rattle.std.specs.Str.{bytes_eq}
 use Rattle.std.proofs.lemmas.Bool.{false≢true, and_parts, and_from}
 use Rattle.std.proofs.lemmas.Slice.Eq.{bytes_eq-Decides}
-use Rattle.serde_json.specs.Data.{Data}
 use Rattle.words.specs.Members.{In}
 use Rattle.words.specs.Firsts.{or_else, first_fault}
-use Rattle.records.specs.Side.{Domain, D0, D1, D2, Placed, Triple, Voter, Side}
-use Rattle.json_forms.specs.Faults.{FormFault, NotJson, BadShape}
+use Rattle.records.specs.Side.{Domain, D0, D1, D2, Placed, Triple, Side}
+use Rattle.json_forms.specs.Faults.{NotJson, BadShape}
 use Rattle.json_forms.specs.Results.{◌>>=◌, unless_fault}
-use Rattle.json_forms.specs.Values.{Member, reading_of, object_in}
+use Rattle.json_forms.specs.Values.{reading_of, object_in}
 use Rattle.json_forms.specs.Grid.{top_key}
-use Rattle.side_form.specs.Side.{SideFault, OfForm, DuplicateName, UnknownName, Unpaired, WrongDomain, side_in, size_fault, same_site, cell_fault, names_of_triples, entry_fault, voter_fault, pad_triples, second_use, cell_names, first_outside, unknown_name, unpaired, same_domain, entries_of_triple, is_in_domain, first_elsewhere, wrong_domain, side_fault, in_form, side_of}
+use Rattle.side_form.specs.Side.{OfForm, DuplicateName, Unpaired, WrongDomain, side_in, size_fault, same_site, cell_fault, names_of_triples, entry_fault, voter_fault, pad_triples, second_use, cell_names, first_outside, unknown_name, unpaired, same_domain, entries_of_triple, is_in_domain, first_elsewhere, wrong_domain, side_fault, in_form}
 use Rattle.circuit.specs.Triples.{names_of, all_triples}
-use Rattle.links.proofs.Members.{in_left, in_right, in_map, of_flat_map, in_flat_map}
+use Rattle.links.proofs.Members.{in_map, of_flat_map, in_flat_map}
 use Rattle.fabric_laws.proofs.Members.{any_from, any_to}
 use Rattle.cells_laws.proofs.Options.{or_none}
 use Rattle.formed_laws.specs.Twice.{HasNoneTwice}

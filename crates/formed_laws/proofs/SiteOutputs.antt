@@ -1,8 +1,7 @@
 -- The cell outputs of the sites of a tile, kind by kind.
-use Rattle.std.proofs.Common.{◌≡◌, ℕ, inl, inr, List, [], ◌∷◌, ◌++◌, map, flat_map, filter_map, Option, Some, None, option_to_list, refl, sym, ap, ap₂, subst, ◌∙◌}
+use Rattle.std.proofs.Common.{◌≡◌, ℕ, inl, inr, List, [], ◌∷◌, ◌++◌, map, flat_map, filter_map, Option, Some, None, option_to_list, refl, ap, ap₂, ◌∙◌}
 use Rattle.std.specs.Prelude.{unwrap_or, false, pos, ◌+ℤ◌, if◌then◌else◌}
 use Rattle.std.specs.List.{cons_option}
-use Rattle.std.specs.Option.{option_and_then}
 use Rattle.std.proofs.lemmas.List.Elements.{filter_map-append}
 use Rattle.words.specs.Members.{In}
 use Rattle.records.specs.Grid.{Tile}
@@ -21,7 +20,6 @@ use Rattle.fabric_laws.proofs.Numbered.{position_there}
 use Rattle.fabric_laws.proofs.Orders.{same_wire_refl}
 use Rattle.fabric_laws.proofs.Prefixes.{begins_from}
 use Rattle.cells_laws.proofs.Options.{then_to}
-use Rattle.formed_laws.specs.Twice.{HasNoneTwice}
 
 -- what all of some elements give
 pub given_all : {X Y : Type 0} (f : X → Option Y) (w : X → Y) (xs : List X) → ((x : X) → In xs x → f x ≡ Some (w x)) → filter_map f xs ≡ map w xs

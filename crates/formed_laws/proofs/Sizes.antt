@@ -1,5 +1,5 @@
 -- The slices of a triple have equally many tables and registers, and tables have 1 to 4 pins.
-use Rattle.std.proofs.Common.{◌≡◌, ◌≤◌, ℕ, true, inl, inr, List, map, length, Some, find, refl, sym, ap, subst, ◌∙◌}
+use Rattle.std.proofs.Common.{◌≡◌, ◌≤◌, ℕ, inl, inr, List, map, length, Some, find, sym, ap, subst, ◌∙◌}
 use Rattle.std.specs.Prelude.{Ok, unwrap_or}
 use Rattle.std.specs.Str.{bytes_eq}
 use Rattle.std.proofs.lemmas.List.{length-map}
@@ -7,7 +7,7 @@ use Rattle.std.proofs.lemmas.Option.{same_Some}
 use Rattle.std.proofs.lemmas.Slice.Eq.{bytes_eq-Decides}
 use Rattle.words.specs.Members.{In}
 use Rattle.records.specs.Profile.{TableKind, SliceKind}
-use Rattle.records.specs.Side.{Placed, Triple}
+use Rattle.records.specs.Side.{Triple}
 use Rattle.fabric.specs.Device.{Device}
 use Rattle.circuit.specs.Cells.{TableCell, SliceCell}
 use Rattle.circuit.specs.Triples.{IsEntry, is_entry, all_triples, triple_with}
@@ -20,7 +20,7 @@ use Rattle.cells.specs.Accepted.{TripleAlike}
 use Rattle.cells.specs.Faults.{site_of_slice}
 use Rattle.cells.specs.CellsOf.{IsSliceOf, cells_of}
 use Rattle.upset.specs.Configured.{Configured, circuit_of}
-use Rattle.links.proofs.Members.{in_left, of_map}
+use Rattle.links.proofs.Members.{of_map}
 use Rattle.fabric_laws.proofs.Members.{find_from, find_to}
 use Rattle.cells_laws.proofs.Options.{some_is, then_to}
 use Rattle.cells_laws.proofs.Sites.{site_stands}
@@ -42,8 +42,8 @@ module _ (device : Device) (k : Configured) (apart : IsApart k.side) (fit : IsFi
   site_by_name c a =
       let named = slice_name device k apart made c a in
       let found : find (λ p. bytes_eq p.name c.name) k.side.slices ≡ Some a.placed =
-          find_to (λ p. bytes_eq p.name c.name) k.side.slices a.placed a.listed ((bytes_eq-Decides a.placed.name c.name).1 named)
-          (λ q i e. one_name device k apart made q a.placed (in_slices device k apart made q i) (in_slices device k apart made a.placed a.listed) ((bytes_eq-Decides q.name c.name).0 e ∙ sym named)) in
+      find_to (λ p. bytes_eq p.name c.name) k.side.slices a.placed a.listed ((bytes_eq-Decides a.placed.name c.name).1 named)
+      (λ q i e. one_name device k apart made q a.placed (in_slices device k apart made q i) (in_slices device k apart made a.placed a.listed) ((bytes_eq-Decides q.name c.name).0 e ∙ sym named)) in
       then_to (slice_site k.graph device.profile) (find (λ p. bytes_eq p.name c.name) k.side.slices) a.placed a.site found a.stands
 
   -- the triple with a slice's name is one of slices
