@@ -15,7 +15,7 @@ use Rattle.upset_examples.proofs.Conditions.{of_toggle, toggle_clean, toggle_saf
 use Rattle.upset_examples.proofs.ToggleMeets.{toggle_triplicated}
 use Rattle.formed_laws.specs.Twice.{HasNoneTwice}
 use Rattle.formed_laws.specs.Designs.{NoOverlap, IsReadDesign}
-use Rattle.formed_laws.proofs.Formed.{mux_bits_masked_there}
+use Rattle.formed_laws.proofs.Formed.{read_mux_bits_masked}
 use Rattle.formed_examples.proofs.Texts.{profile_read, side_read}
 
 -- no number of a list stands behind itself
@@ -46,4 +46,4 @@ toggle_read = record {
 }
 
 pub toggle_masked : (f : Fault) → IsMuxFault of_toggle f → ((d : Domain) × RightOutside (circuit_of of_toggle) f d) × TwoAreRight (circuit_of of_toggle) f
-toggle_masked = mux_bits_masked_there mini_a of_toggle toggle_read toggle_clean toggle_triplicated toggle_safe
+toggle_masked = read_mux_bits_masked mini_a of_toggle toggle_read toggle_clean toggle_triplicated toggle_safe

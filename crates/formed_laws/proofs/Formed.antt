@@ -1,4 +1,4 @@
--- The cells of a design that is read are well formed.
+-- The cells of a design that fits are well formed, and a design that is read fits.
 use Rattle.std.proofs.Common.{◌≡◌, ap₂, sym, subst}
 use Rattle.words.specs.Members.{In}
 use Rattle.patterns.specs.Bits.{DeviceBit, Bits}
@@ -24,7 +24,7 @@ use Rattle.repair.specs.Turns.{routing}
 use Rattle.repair_laws.specs.Ready.{BitsAreSettings, IsReady}
 use Rattle.cells_laws.proofs.Sites.{site_stands}
 use Rattle.formed_laws.specs.Readers.{IsReadProfile, IsReadSide}
-use Rattle.formed_laws.specs.Designs.{NoOverlap, IsReadDesign}
+use Rattle.formed_laws.specs.Designs.{NoOverlap, IsReadDesign, IsFitDesign}
 use Rattle.formed_laws.proofs.SideRead.{read_apart}
 use Rattle.formed_laws.proofs.ProfileRead.{read_fit}
 use Rattle.formed_laws.proofs.Placed as placed
@@ -32,18 +32,18 @@ use Rattle.formed_laws.proofs.Sizes as sizes
 use Rattle.formed_laws.proofs.Outputs as outputs
 use Rattle.formed_laws.proofs.Settings.{site_bits_are}
 
-module _ (device : Device) (k : Configured) (r : IsReadDesign device k) where
+module _ (device : Device) (k : Configured) (r : IsFitDesign device k) where
   pub names_apart : NamesApart k.cells
-  names_apart = placed.names_apart device k (read_apart k.side r.side) r.cells
+  names_apart = placed.names_apart device k r.side r.cells
 
   pub triples_fit : TriplesFit (circuit_of k)
-  triples_fit = placed.triples_fit device k (read_apart k.side r.side) r.cells
+  triples_fit = placed.triples_fit device k r.side r.cells
 
   pub sizes_fit : SizesFit (circuit_of k)
-  sizes_fit = sizes.sizes_fit device k (read_apart k.side r.side) (read_fit device.profile r.profile) r.cells
+  sizes_fit = sizes.sizes_fit device k r.side r.profile r.cells
 
   pub outputs_apart : OutputsApart (circuit_of k)
-  outputs_apart = outputs.outputs_apart device k (read_apart k.side r.side) (read_fit device.profile r.profile) r.graph r.outputs r.cells
+  outputs_apart = outputs.outputs_apart device k r.side r.profile r.graph r.outputs r.cells
 
   pub outputs_listed : OutputsListed k
   outputs_listed s i = outputs_apart.listed s i
@@ -56,13 +56,13 @@ module _ (device : Device) (k : Configured) (r : IsReadDesign device k) where
     where
       of_slice : (s : SliceCell) → In k.cells.slices s → (b : DeviceBit) → In s.bits b → In (setting_bits k.graph) b
       of_slice s i b j =
-          let a = placed.of_slice device k (read_apart k.side r.side) r.cells s i in
+          let a = placed.of_slice device k r.side r.cells s i in
           let st = site_stands k.graph device.profile.slices (λ q. q.tile) (λ q. q.name) a.placed a.site a.stands in
           site_bits_are k.graph a.site a.site.kind.settings st.in_grid b (subst (λ (c : SliceCell). In c.bits b) (sym a.cell) j)
 
       of_pad : (p : PadCell) → In k.cells.pads p → (b : DeviceBit) → In p.bits b → In (setting_bits k.graph) b
       of_pad p i b j =
-          let a = placed.of_pad device k (read_apart k.side r.side) r.cells p i in
+          let a = placed.of_pad device k r.side r.cells p i in
           let st = site_stands k.graph device.profile.pads (λ q. q.tile) (λ q. q.name) a.placed a.site a.stands in
           site_bits_are k.graph a.site a.site.kind.settings st.in_grid b (subst (λ (c : PadCell). In c.bits b) (sym a.cell) j)
 
@@ -70,16 +70,42 @@ module _ (device : Device) (k : Configured) (r : IsReadDesign device k) where
   ready clean = record { graph = r.graph; clean = clean; outputs = outputs_apart; settings = bits_are_settings }
 
   pub entries_in_domain : EntriesInDomain (circuit_of k)
-  entries_in_domain = placed.entries_in_domain device k (read_apart k.side r.side) r.cells
+  entries_in_domain = placed.entries_in_domain device k r.side r.cells
+
+-- a design that is read fits
+pub read_fits : (device : Device) (k : Configured) → IsReadDesign device k → IsFitDesign device k
+read_fits device k r = record {
+  profile = read_fit device.profile r.profile;
+  side = read_apart k.side r.side;
+  graph = r.graph;
+  outputs = r.outputs;
+  cells = r.cells;
+}
+
+module _ (device : Device) (k : Configured) (r : IsReadDesign device k) where
+  fits : IsFitDesign device k
+  fits = read_fits device k r
+
+  pub read_well_formed : IsWellFormed (circuit_of k)
+  read_well_formed = well_formed device k fits
+
+  pub read_entries : EntriesInDomain (circuit_of k)
+  read_entries = entries_in_domain device k fits
+
+  pub read_listed : OutputsListed k
+  read_listed = outputs_listed device k fits
+
+  pub read_ready : IsClean (routing k) → IsReady device k
+  read_ready = ready device k fits
 
   -- flips that aren't bad are masked, and so is each routing-mux bit where the image is safe
-  pub flips_masked_there : IsClean (routing k) → IsTriplicated (circuit_of k) → (flips : Bits) (f : Fault) → IsEffect k flips f → (IsBad k flips → ⊥)
+  pub read_flips_masked : IsClean (routing k) → IsTriplicated (circuit_of k) → (flips : Bits) (f : Fault) → IsEffect k flips f → (IsBad k flips → ⊥)
       → ((d : Domain) × RightOutside (circuit_of k) f d) × TwoAreRight (circuit_of k) f
-  flips_masked_there clean triplicated = flips_masked k clean well_formed triplicated
+  read_flips_masked clean triplicated = flips_masked k clean read_well_formed triplicated
 
-  pub mux_bits_masked_there : IsClean (routing k) → IsTriplicated (circuit_of k) → IsSafe k → (f : Fault) → IsMuxFault k f
+  pub read_mux_bits_masked : IsClean (routing k) → IsTriplicated (circuit_of k) → IsSafe k → (f : Fault) → IsMuxFault k f
       → ((d : Domain) × RightOutside (circuit_of k) f d) × TwoAreRight (circuit_of k) f
-  mux_bits_masked_there clean triplicated = mux_bits_masked k clean well_formed triplicated
+  read_mux_bits_masked clean triplicated = mux_bits_masked k clean read_well_formed triplicated
 
 -- the circuit that an image makes, with its parts put together
 module _ (device : Device) (g : Graph) (image : Bits) (side : Side) (c : Circuit) (profile : IsReadProfile device.profile) (read : IsReadSide side)
@@ -94,4 +120,4 @@ module _ (device : Device) (g : Graph) (image : Bits) (side : Side) (c : Circuit
   design = record { profile = profile; side = read; graph = graph; outputs = overlap; cells = made.cells }
 
   pub circuit_formed : IsWellFormed c × EntriesInDomain c
-  circuit_formed = (subst IsWellFormed same_circuit (well_formed device configured design), subst EntriesInDomain same_circuit (entries_in_domain device configured design))
+  circuit_formed = (subst IsWellFormed same_circuit (read_well_formed device configured design), subst EntriesInDomain same_circuit (read_entries device configured design))

@@ -14,7 +14,7 @@ ghost use Rattle.fabric.specs.Graph.{Graph};
 ghost use Rattle.fabric.specs.GraphOf.{IsGraph};
 ghost use Rattle.fabric.specs.InOrder.{IsRising};
 ghost use Rattle.fabric.specs.Wires.{name_cmp};
-ghost use Rattle.formed_laws.specs.Designs.{IsReadDesign, NoOverlap};
+ghost use Rattle.formed_laws.specs.Designs.{IsFitDesign, IsReadDesign, NoOverlap};
 ghost use Rattle.formed_laws.specs.ProfileRead.{IsFit};
 ghost use Rattle.formed_laws.specs.Readers.{IsReadGrid, IsReadProfile, IsReadSide};
 ghost use Rattle.formed_laws.specs.SideRead.{IsApart};
@@ -51,8 +51,18 @@ pub fn read_grid_has_tiles_apart()
     ensures apart { (g : Graph) → IsReadGrid g.grid → TilesApart g }
 {}
 
-/// The cells of a design that is read are well formed, and entry i of each triple lies in domain i. Its outputs are cell
-/// outputs, which the plain tests of flips ask, and where its routing is clean it is ready for repair.
+/// A design that is read fits, and the cells of a design that fits are well formed, with entry i of each triple in domain
+/// i. Its outputs are cell outputs, which the plain tests of flips ask, and where its routing is clean it is ready for
+/// repair.
+pub fn fitting_cells_are_well_formed()
+    ensures read { (device : Device) (k : Configured) → IsReadDesign device k → IsFitDesign device k }
+    ensures formed { (device : Device) (k : Configured) → IsFitDesign device k → IsWellFormed (circuit_of k) }
+    ensures entries { (device : Device) (k : Configured) → IsFitDesign device k → EntriesInDomain (circuit_of k) }
+    ensures listed { (device : Device) (k : Configured) → IsFitDesign device k → OutputsListed k }
+    ensures ready { (device : Device) (k : Configured) → IsFitDesign device k → IsClean (routing k) → IsReady device k }
+{}
+
+/// So the cells of a design that is read are well formed, and so is any circuit that its image makes.
 pub fn cells_are_well_formed()
     ensures formed { (device : Device) (k : Configured) → IsReadDesign device k → IsWellFormed (circuit_of k) }
     ensures entries { (device : Device) (k : Configured) → IsReadDesign device k → EntriesInDomain (circuit_of k) }
