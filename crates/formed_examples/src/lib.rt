@@ -6,13 +6,16 @@ ghost use Rattle.circuit.specs.Faults.{Fault};
 ghost use Rattle.circuit.specs.Right.{RightOutside, TwoAreRight};
 ghost use Rattle.circuit.specs.Triplicated.{IsTriplicated};
 ghost use Rattle.fabric_laws.specs.PlainGraph.{graph_of};
+ghost use Rattle.formed_examples.specs.Databases.{clock_db_text, pad_db_text, slice_db_text};
 ghost use Rattle.formed_examples.specs.Texts.{profile_text, side_text};
 ghost use Rattle.formed_laws.specs.Designs.{IsReadDesign};
 ghost use Rattle.formed_laws.specs.Readers.{IsReadGrid};
+ghost use Rattle.grammars.specs.BitsDb.{database_of};
 ghost use Rattle.json_forms.specs.Profile.{profile_of};
 ghost use Rattle.links.specs.Links.{IsClean};
-ghost use Rattle.mini.specs.MiniA.{mini_a};
+ghost use Rattle.mini.specs.MiniA.{mck, mini_a, mio, mlc};
 ghost use Rattle.mini.specs.Toggle.{toggle, toggle_side};
+ghost use Rattle.named_laws.specs.DatabaseRead.{IsReadDevice};
 ghost use Rattle.records.specs.Side.{Domain};
 ghost use Rattle.repair.specs.Turns.{routing};
 ghost use Rattle.side_form.specs.Side.{side_of};
@@ -27,6 +30,14 @@ pub fn texts_are_read()
     ensures profile { profile_of profile_text ≡ Ok mini_a.profile }
     ensures side { side_of side_text ≡ Ok toggle_side }
     ensures grid { IsReadGrid mini_a.grid }
+{}
+
+/// So are the texts of its databases: MINI-A is a device that is read.
+pub fn mini_a_is_read()
+    ensures slices { database_of slice_db_text ≡ Ok mlc }
+    ensures pads { database_of pad_db_text ≡ Ok mio }
+    ensures clocks { database_of clock_db_text ≡ Ok mck }
+    ensures device { IsReadDevice mini_a }
 {}
 
 /// The toggle is a design that is read; it is clean, triplicated and safe, so that each flip of a routing-mux bit is
