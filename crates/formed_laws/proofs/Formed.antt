@@ -51,6 +51,18 @@ module _ (device : Device) (k : Configured) (r : IsFitDesign device k) where
   pub well_formed : IsWellFormed (circuit_of k)
   well_formed = record { names = names_apart; outputs = outputs_apart; triples = triples_fit; sizes = sizes_fit }
 
+  -- other routing between the same cells changes none of it
+  pub formed_in_any_image : (image : Bits) → IsWellFormed (circuit_of (record k { image = image }))
+  formed_in_any_image image =
+      let t = triples_fit in
+      let z = sizes_fit in
+      record {
+        names = names_apart;
+        outputs = record { listed = outputs_apart.listed; alone = outputs_apart.alone };
+        triples = record { slices = t.slices; inputs = t.inputs; outputs = t.outputs; clocks = t.clocks; paired = t.paired; once = t.once };
+        sizes = record { tables = z.tables; registers = z.registers; some_pins = z.some_pins; few_pins = z.few_pins };
+      }
+
   pub bits_are_settings : BitsAreSettings k
   bits_are_settings = record { slices = of_slice; pads = of_pad }
     where

@@ -52,11 +52,12 @@ pub fn read_grid_has_tiles_apart()
 {}
 
 /// A design that is read fits, and the cells of a design that fits are well formed, with entry i of each triple in domain
-/// i. Its outputs are cell outputs, which the plain tests of flips ask, and where its routing is clean it is ready for
-/// repair.
+/// i; other routing between the same cells keeps them well formed. Its outputs are cell outputs, which the plain tests of
+/// flips ask, and where its routing is clean it is ready for repair.
 pub fn fitting_cells_are_well_formed()
     ensures read { (device : Device) (k : Configured) → IsReadDesign device k → IsFitDesign device k }
     ensures formed { (device : Device) (k : Configured) → IsFitDesign device k → IsWellFormed (circuit_of k) }
+    ensures any_image { (device : Device) (k : Configured) (image : Bits) → IsFitDesign device k → IsWellFormed (circuit_of (record k { image = image })) }
     ensures entries { (device : Device) (k : Configured) → IsFitDesign device k → EntriesInDomain (circuit_of k) }
     ensures listed { (device : Device) (k : Configured) → IsFitDesign device k → OutputsListed k }
     ensures ready { (device : Device) (k : Configured) → IsFitDesign device k → IsClean (routing k) → IsReady device k }
