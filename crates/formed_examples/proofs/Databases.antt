@@ -1,5 +1,5 @@
 -- The texts of the databases are read as they should be.
-use Rattle.std.proofs.Common.{◌≡◌, ◌⊎◌, inl, inr, refl, subst}
+use Rattle.std.proofs.Common.{◌≡◌, inl, inr, refl, subst}
 use Rattle.std.specs.Prelude.{Ok}
 use Rattle.words.specs.Members.{In}
 use Rattle.fabric.specs.Device.{TypeDb}

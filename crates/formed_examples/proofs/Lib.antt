@@ -1,3 +1,4 @@
 pub mod Texts
 pub mod Databases
 pub mod Read
+pub mod Moves

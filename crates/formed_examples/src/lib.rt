@@ -2,24 +2,30 @@
 //! the laws on such designs ask.
 #![tactic(auto)]
 
+ghost use Rattle.attempts.specs.Candidates.{site_named};
+ghost use Rattle.attempts.specs.Moves.{moved_side};
+ghost use Rattle.cells.specs.Sites.{Site};
 ghost use Rattle.circuit.specs.Faults.{Fault};
 ghost use Rattle.circuit.specs.Right.{RightOutside, TwoAreRight};
 ghost use Rattle.circuit.specs.Triplicated.{IsTriplicated};
 ghost use Rattle.fabric_laws.specs.PlainGraph.{graph_of};
 ghost use Rattle.formed_examples.specs.Databases.{clock_db_text, pad_db_text, slice_db_text};
+ghost use Rattle.formed_examples.specs.Moves.{to_fourth};
 ghost use Rattle.formed_examples.specs.Texts.{profile_text, side_text};
 ghost use Rattle.formed_laws.specs.Designs.{IsReadDesign};
 ghost use Rattle.formed_laws.specs.Readers.{IsReadGrid};
+ghost use Rattle.formed_laws.specs.SideRead.{IsApart};
 ghost use Rattle.grammars.specs.BitsDb.{database_of};
 ghost use Rattle.json_forms.specs.Profile.{profile_of};
 ghost use Rattle.links.specs.Links.{IsClean};
 ghost use Rattle.mini.specs.MiniA.{mck, mini_a, mio, mlc};
 ghost use Rattle.mini.specs.Toggle.{toggle, toggle_side};
 ghost use Rattle.named_laws.specs.DatabaseRead.{IsReadDevice};
+ghost use Rattle.records.specs.Profile.{SliceKind};
 ghost use Rattle.records.specs.Side.{Domain};
 ghost use Rattle.repair.specs.Turns.{routing};
 ghost use Rattle.side_form.specs.Side.{side_of};
-ghost use Rattle.std.specs.Prelude.{Ok, ◌≡◌};
+ghost use Rattle.std.specs.Prelude.{Ok, Some, ◌≡◌};
 ghost use Rattle.upset.specs.Configured.{circuit_of};
 ghost use Rattle.upset.specs.Safe.{IsMuxFault, IsSafe};
 ghost use Rattle.upset_examples.specs.Circuits.{with_toggle};
@@ -49,4 +55,10 @@ pub fn toggle_is_read()
     ensures safe { IsSafe (with_toggle (graph_of mini_a) toggle) }
     ensures masked { let k = with_toggle (graph_of mini_a) toggle in (f : Fault) → IsMuxFault k f
         → ((d : Domain) × RightOutside (circuit_of k) f d) × TwoAreRight (circuit_of k) f }
+{}
+
+/// Its third slice may move to the free site of the fourth column, and the side file is apart then too.
+pub fn a_slice_moves()
+    ensures there { (s : Site SliceKind) × (site_named (graph_of mini_a) mini_a.profile to_fourth.tile to_fourth.kind ≡ Some s) }
+    ensures apart { IsApart (moved_side to_fourth toggle_side) }
 {}

@@ -8,13 +8,13 @@ use Rattle.std.proofs.lemmas.Option.{same_Some}
 use Rattle.std.proofs.lemmas.Slice.Eq.{bytes_eq-Decides}
 use Rattle.words.specs.Members.{In}
 use Rattle.records.specs.Grid.{Tile}
-use Rattle.records.specs.Profile.{SliceKind, PadKind}
+use Rattle.records.specs.Profile.{SliceKind}
 use Rattle.records.specs.Side.{Domain, Placed, Triple, Side}
 use Rattle.fabric.specs.Device.{Device}
 use Rattle.fabric.specs.GraphOf.{IsGraph}
 use Rattle.fabric.specs.Graph.{Graph}
 use Rattle.fabric.specs.Image.{tile_named}
-use Rattle.cells.specs.Sites.{Site, slice_kind, pad_kind, site_in, site_at, pad_site}
+use Rattle.cells.specs.Sites.{Site, site_in, site_at}
 use Rattle.cells.specs.CellsOf.{cells_of}
 use Rattle.circuit.specs.Triples.{IsEntry}
 use Rattle.json_forms.specs.KindRules.{slice_name, pad_name}
@@ -22,14 +22,14 @@ use Rattle.upset.specs.Configured.{Configured}
 use Rattle.repair.specs.Layouts.{configured}
 use Rattle.links.proofs.Members.{in_map, of_map}
 use Rattle.fabric_laws.proofs.Members.{find_from}
-use Rattle.cells_laws.proofs.Options.{mapped_from, then_from}
+use Rattle.cells_laws.proofs.Options.{then_from}
 use Rattle.cells_laws.proofs.Faults.{cells_accepted}
 use Rattle.std.proofs.lemmas.Bool.{and_parts}
 use Rattle.attempts.specs.Jobs.{Job, State}
 use Rattle.attempts.specs.Moves.{Move, placed_anew, moved_side}
 use Rattle.attempts.specs.Candidates.{IsCandidate, Step, site_named}
 use Rattle.formed_laws.specs.Twice.{HasNoneTwice}
-use Rattle.formed_laws.specs.SideRead.{site_of, Lists, EntriesAre, IsPaired, IsApart}
+use Rattle.formed_laws.specs.SideRead.{site_of, Lists, EntriesAre, IsApart}
 use Rattle.formed_laws.specs.Designs.{NoOverlap, IsFitDesign}
 use Rattle.formed_laws.proofs.Twice.{not_both, left_part, right_part, joined_twice, one_of_key, keys_apart}
 

@@ -4,7 +4,7 @@ use Rattle.std.proofs.lemmas.List.{map-append}
 use Rattle.words.specs.Members.{In}
 use Rattle.links.proofs.Members.{in_left, in_right, in_either}
 use Rattle.formed_laws.specs.Twice.{HasNoneTwice}
-use Rattle.formed_laws.proofs.Twice.{joined_twice, left_part, right_part}
+use Rattle.formed_laws.proofs.Twice.{joined_twice}
 
 -- a list with one element more, which isn't in it
 pub one_more : {X : Type 0} (xs : List X) (x : X) → HasNoneTwice xs → (In xs x → ⊥) → HasNoneTwice (xs ++ x ∷ [])

@@ -1,10 +1,10 @@
 -- Databases and devices that are read name nothing twice.
-use Rattle.std.proofs.Common.{◌≡◌, ℕ, inl, List, [], ◌∷◌, map, refl, sym, subst, ◌∙◌}
+use Rattle.std.proofs.Common.{◌≡◌, List, [], ◌∷◌, map, sym, subst, ◌∙◌}
 use Rattle.words.specs.Members.{In}
 use Rattle.records.specs.Database.{Arc, Mux, TileDb}
 use Rattle.records.specs.Grid.{Tile}
 use Rattle.texts.specs.Lines.{lines_of}
-use Rattle.fabric.specs.Device.{TypeDb, Device}
+use Rattle.fabric.specs.Device.{Device}
 use Rattle.grammars.specs.RowByRow.{nothing_read, read_lines}
 use Rattle.grammars.proofs.RowLemmas.{read_by_lines}
 use Rattle.links.proofs.Members.{in_map}

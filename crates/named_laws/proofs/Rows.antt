@@ -9,15 +9,15 @@ use Rattle.words.specs.Members.{In}
 use Rattle.patterns.specs.Bits.{PatternBit}
 use Rattle.records.specs.Database.{Arc, Mux, WordSetting, EnumOption, EnumSetting, TileDb}
 use Rattle.texts.specs.Lines.{Line}
-use Rattle.grammars.specs.Rows.{Row, has_words}
-use Rattle.grammars.specs.BitsDb.{DbFault, BadLine, some_if, Head, MuxHead, WordHead, EnumHead, FixedHead, head_of, arc_of, bits_of, option_of, has_sink, has_source, has_word, has_enum, has_value, head_fault, last_of, pattern_fault, entry_fault, arc_fault, bits_fault, option_fault, Kind, OfMux, OfWord, OfEnum, OfFixed, kind_of, Reading, row_fault, begins_with_dot, words_fault, unless_fault}
+use Rattle.grammars.specs.Rows.{has_words}
+use Rattle.grammars.specs.BitsDb.{DbFault, BadLine, some_if, Head, MuxHead, WordHead, EnumHead, FixedHead, head_of, arc_of, bits_of, option_of, has_sink, has_source, has_word, has_enum, has_value, head_fault, last_of, entry_fault, arc_fault, option_fault, Kind, OfMux, OfWord, OfEnum, OfFixed, Reading, row_fault, begins_with_dot, words_fault, unless_fault}
 use Rattle.grammars.specs.RowByRow.{with_last, with_arc, with_bits, with_option, with_head, with_row, with_words, row_step, line_row, line_step, go_on, read_lines}
 use Rattle.grammars.proofs.Lasts.{last_pushed, with_last_pushed, Ending, NoLast, Last, ending_of}
 use Rattle.links.proofs.Members.{of_map}
 use Rattle.fabric_laws.proofs.Members.{any_to}
 use Rattle.formed_laws.specs.Twice.{HasNoneTwice}
 use Rattle.named_laws.specs.DatabaseRead.{HasNamesOnce}
-use Rattle.named_laws.proofs.Lists.{one_more, named_more, same_names, AllGood, good_more, good_front, good_last}
+use Rattle.named_laws.proofs.Lists.{named_more, same_names, AllGood, good_more, good_front, good_last}
 
 -- a name that no element has
 new_name : {X : Type 0} (name : X → List ℕ) (xs : List X) (n : List ℕ) → (list_any (λ x. bytes_eq (name x) n) xs ≡ true → ⊥) → In (map name xs) n → ⊥
