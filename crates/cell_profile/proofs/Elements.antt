@@ -8,7 +8,7 @@ use Rattle.serde_json.specs.Data.{Data}
 use Rattle.words.specs.Firsts.{first_fault_after, or_else}
 use Rattle.json_forms.specs.Results.{◌>>=◌, unless_fault}
 use Rattle.json_forms.specs.Faults.{FormFault, BadShape}
-use Rattle.json_forms.specs.Profile.{Verdict, Fits, Misfits, Exceeds, verdict_fault, element_key, element_verdict, element_fault, elements_read}
+use Rattle.json_forms.specs.Profile.{Verdict, verdict_fault, element_key, element_verdict, element_fault, elements_read}
 use Rattle.json_forms.proofs.OneByOne.{behind}
 use Rattle.cell_profile.specs.Elements.{element_read}
 

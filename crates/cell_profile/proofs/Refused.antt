@@ -1,5 +1,5 @@
 -- The fault of a part is the fault of the whole.
-use Rattle.std.proofs.Common.{◌≡◌, Option, Some, None, Result, Ok, Err, refl, IfSome}
+use Rattle.std.proofs.Common.{◌≡◌, Option, Some, None, Result, Err, refl, IfSome}
 use Rattle.words.specs.OrMemory.{OrMemory}
 use Rattle.json_forms.specs.Results.{◌>>=◌}
 

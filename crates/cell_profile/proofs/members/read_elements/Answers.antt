@@ -1,6 +1,6 @@
-use Rattle.std.proofs.Common.{refl, ap, sym}
+use Rattle.std.proofs.Common.{refl}
 use Rattle.serde_json.specs.View.{view}
-use Rattle.cell_profile.proofs.Elements.{IsReadUpTo, none_yet, one_further}
+use Rattle.cell_profile.proofs.Elements.{none_yet, one_further}
 use Rattle.cell_profile.proofs.members.read_elements.Goals as goal
 
 pub loop-value-init : goal.loop-value-init
