@@ -1,0 +1,3 @@
+pub mod MiniB
+pub mod Corridor
+pub mod CorridorCells

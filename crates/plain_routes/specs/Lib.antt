@@ -1,0 +1,4 @@
+pub mod PlainParts
+pub mod PlainUsable
+pub mod PlainCuts
+pub mod PlainPaths

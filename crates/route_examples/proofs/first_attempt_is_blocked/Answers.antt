@@ -1,0 +1,5 @@
+use Rattle.route_examples.proofs.Blocked.{first_attempt}
+use Rattle.route_examples.proofs.first_attempt_is_blocked.Goals as goal
+
+pub returns : goal.returns
+returns c = first_attempt

@@ -1,0 +1,29 @@
+//! Worked examples of repair on the small devices, each the contract of a function with an empty body.
+#![tactic(auto)]
+
+ghost use Rattle.attempts.specs.Turns.{Blocked, ComesOut};
+ghost use Rattle.fabric_laws.specs.PlainGraph.{graph_of};
+ghost use Rattle.mini.specs.Spoken.{text_of};
+ghost use Rattle.mini.specs.ToggleCells.{wire_at};
+ghost use Rattle.mini_b.specs.MiniB.{mini_b};
+ghost use Rattle.records.specs.Side.{D0};
+ghost use Rattle.repair.specs.Layouts.{turn_over};
+ghost use Rattle.repair.specs.Routes.{IsBlocked};
+ghost use Rattle.route_examples.specs.Corridors.{after, bare, cut, eighth, fifteen, first_seven, inside, inside_texts, last_seven, over_u, read, rim, rim_texts, table_net};
+ghost use Rattle.std.specs.Prelude.{codes, map, [], ◌∷◌, ◌≡◌};
+
+/// In the corridor, where the first seven connections are routed, the connection of v0 to its pad is blocked: the
+/// track U is taken by the seventh, and the track V doesn't lead to the pad.
+pub fn eighth_connection_is_blocked()
+    ensures seventh { let g = graph_of mini_b in map (λ a. text_of g a.sink) (over_u g) ≡ codes "R1C1/U" ∷ codes "R1C2/U" ∷ codes "R1C3/U" ∷ codes "R1C3/D" ∷ [] }
+    ensures inside { let g = graph_of mini_b in map (text_of g) (inside g) ≡ inside_texts }
+    ensures rim { let g = graph_of mini_b in map (text_of g) (rim g) ≡ rim_texts }
+    ensures blocked { let g = graph_of mini_b in
+        IsBlocked (turn_over (read g) (after g 7) (table_net g (codes "v0") D0 2)) (inside g) (rim g) (wire_at g 0 4 (codes "PO")) }
+{}
+
+/// So comes out the first attempt on the corridor without its routes: each of the first seven connections gets its path,
+/// and the eighth is blocked by this cut.
+pub fn first_attempt_is_blocked()
+    ensures { let g = graph_of mini_b in ComesOut (read g) [] (bare g) fifteen (Blocked first_seven eighth last_seven (cut g)) }
+{}
