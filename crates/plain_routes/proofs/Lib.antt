@@ -4,3 +4,4 @@ pub mod Rules
 pub mod Usable
 pub mod Cuts
 pub mod Paths
+pub mod Starts

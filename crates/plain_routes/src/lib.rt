@@ -2,19 +2,30 @@
 //! laws, each the contract of a function with an empty body.
 #![tactic(auto)]
 
+ghost use Rattle.attempts.specs.Jobs.{Job};
+ghost use Rattle.attempts.specs.Starts.{IsRippedAtStart};
+ghost use Rattle.attempts.specs.Wires.{connection_cmp};
+ghost use Rattle.circuit.specs.Cells.{Cells};
 ghost use Rattle.circuit.specs.Circuits.{Circuit, Connection, IsConnection};
 ghost use Rattle.fabric.specs.Device.{Device};
 ghost use Rattle.fabric.specs.Graph.{GraphArc};
 ghost use Rattle.fabric.specs.GraphOf.{IsGraph};
+ghost use Rattle.fabric.specs.InOrder.{IsRising};
 ghost use Rattle.links.specs.Links.{IsClean};
 ghost use Rattle.plain_routes.specs.PlainCuts.{is_blocked};
 ghost use Rattle.plain_routes.specs.PlainParts.{connections};
 ghost use Rattle.plain_routes.specs.PlainPaths.{first_paths, weight_by};
+ghost use Rattle.plain_routes.specs.PlainStarts.{is_order, rest_of, ripped_connections, ripped_nets};
 ghost use Rattle.plain_routes.specs.PlainUsable.{usable_among};
+ghost use Rattle.records.specs.Config.{Config};
+ghost use Rattle.repair.specs.Layouts.{configured};
+ghost use Rattle.repair.specs.Nets.{IsRipped, Rip};
+ghost use Rattle.repair.specs.Ripping.{IsRest};
 ghost use Rattle.repair.specs.Routes.{IsBlocked, IsTheRoute};
 ghost use Rattle.repair.specs.Turns.{routing, Turn};
 ghost use Rattle.repair.specs.Usable.{IsUsable};
 ghost use Rattle.std.specs.Prelude.{true, List, ◌↔◌, ◌≡◌, ◌≤◌, ℕ};
+ghost use Rattle.upset.specs.Configured.{Configured};
 ghost use Rattle.upset_laws.specs.PlainUpset.{OutputsListed};
 ghost use Rattle.words.specs.Members.{In};
 
@@ -41,4 +52,28 @@ pub fn first_path_is_exact()
     ensures { (device : Device) (t : Turn) → IsGraph device t.now.graph → IsClean (routing t.now) → OutputsListed t.now
         → (rims : List (List ℕ)) (n pin : ℕ) (path : List GraphArc) → weight_by rims t path ≤ n
         → In (first_paths rims t n pin) path ↔ IsTheRoute rims t path pin }
+{}
+
+/// The plain list of ripped nets is exact.
+pub fn ripped_nets_are_exact()
+    ensures { (device : Device) (k : Configured) → IsGraph device k.graph → IsClean (routing k) → OutputsListed k
+        → (rip : Rip) (net : ℕ) → In (ripped_nets rip device k) net ↔ IsRipped rip device k net }
+{}
+
+/// The plain text without the routes of ripped nets is what it should be.
+pub fn rest_is_exact()
+    ensures { (device : Device) (k : Configured) → IsGraph device k.graph → IsClean (routing k) → OutputsListed k
+        → (rip : Rip) (config : Config) → IsRest (IsRipped rip device k) config k (rest_of rip device config k) }
+{}
+
+/// The plain list of ripped connections is exact.
+pub fn ripped_connections_are_exact()
+    ensures { (job : Job) → let k = configured job.design in IsGraph job.device k.graph → IsClean (routing k) → OutputsListed k
+        → (x : Connection) → In (ripped_connections job) x ↔ IsRippedAtStart job x }
+{}
+
+/// The plain test of an order of connections is exact.
+pub fn order_is_tested()
+    ensures { (cells : Cells) (named list : List Connection)
+        → (is_order cells named list ≡ true) ↔ (IsRising (connection_cmp cells) list × ((x : Connection) → In list x ↔ In named x)) }
 {}

@@ -1,3 +1,4 @@
 pub mod Conditions
 pub mod Ways
 pub mod Blocked
+pub mod Started

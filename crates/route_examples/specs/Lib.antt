@@ -1,1 +1,2 @@
 pub mod Corridors
+pub mod Starting

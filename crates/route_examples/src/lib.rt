@@ -1,6 +1,7 @@
 //! Worked examples of repair on the small devices, each the contract of a function with an empty body.
 #![tactic(auto)]
 
+ghost use Rattle.attempts.specs.Starts.{IsStart};
 ghost use Rattle.attempts.specs.Turns.{Blocked, ComesOut};
 ghost use Rattle.fabric_laws.specs.PlainGraph.{graph_of};
 ghost use Rattle.mini.specs.Spoken.{text_of};
@@ -10,7 +11,14 @@ ghost use Rattle.records.specs.Side.{D0};
 ghost use Rattle.repair.specs.Layouts.{turn_over};
 ghost use Rattle.repair.specs.Routes.{IsBlocked};
 ghost use Rattle.route_examples.specs.Corridors.{after, bare, cut, eighth, fifteen, first_seven, inside, inside_texts, last_seven, over_u, read, rim, rim_texts, table_net};
+ghost use Rattle.route_examples.specs.Starting.{connection_text, corridor_job, corridor_start, fifteen_texts};
 ghost use Rattle.std.specs.Prelude.{codes, map, [], ◌∷◌, ◌≡◌};
+
+/// Repair of the whole corridor starts from its text without arc lines, with these fifteen connections in this order.
+pub fn corridor_starts()
+    ensures start { let g = graph_of mini_b in IsStart (corridor_job g) (corridor_start g) }
+    ensures order { let g = graph_of mini_b in map (connection_text g (bare g).cells) (corridor_start g).order ≡ fifteen_texts }
+{}
 
 /// In the corridor, where the first seven connections are routed, the connection of v0 to its pad is blocked: the
 /// track U is taken by the seventh, and the track V doesn't lead to the pad.
