@@ -2,3 +2,4 @@ pub mod Conditions
 pub mod Ways
 pub mod Blocked
 pub mod Started
+pub mod Uncrossed

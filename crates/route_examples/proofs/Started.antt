@@ -8,7 +8,7 @@ use Rattle.mini_b.specs.CorridorCells.{corridor_cells}
 use Rattle.plain_routes.specs.PlainStarts.{rest_of, ripped_connections, is_order}
 use Rattle.plain_routes.proofs.Rules.{IsToldBy}
 use Rattle.plain_routes.proofs.Starts.{start_law}
-use Rattle.route_examples.specs.Corridors.{with_corridor, without_arcs, fifteen}
+use Rattle.route_examples.specs.Corridors.{without_arcs, fifteen}
 use Rattle.route_examples.specs.Starting.{corridor_job, corridor_start}
 use Rattle.route_examples.proofs.Conditions.{g, told_by}
 

@@ -1,2 +1,3 @@
 pub mod Corridors
 pub mod Starting
+pub mod Crossed

@@ -4,13 +4,16 @@
 ghost use Rattle.attempts.specs.Starts.{IsStart};
 ghost use Rattle.attempts.specs.Turns.{Blocked, ComesOut};
 ghost use Rattle.fabric_laws.specs.PlainGraph.{graph_of};
+ghost use Rattle.mini.specs.MiniA.{mini_a};
 ghost use Rattle.mini.specs.Spoken.{text_of};
-ghost use Rattle.mini.specs.ToggleCells.{wire_at};
+ghost use Rattle.mini.specs.ToggleCells.{toggle_cells, wire_at};
 ghost use Rattle.mini_b.specs.MiniB.{mini_b};
 ghost use Rattle.records.specs.Side.{D0};
 ghost use Rattle.repair.specs.Layouts.{turn_over};
-ghost use Rattle.repair.specs.Routes.{IsBlocked};
+ghost use Rattle.paths.specs.Paths.{weight_of};
+ghost use Rattle.repair.specs.Routes.{IsBlocked, IsRoute, IsTheRoute, roads_for, wire_weight};
 ghost use Rattle.route_examples.specs.Corridors.{after, bare, cut, eighth, fifteen, first_seven, inside, inside_texts, last_seven, over_u, read, rim, rim_texts, table_net};
+ghost use Rattle.route_examples.specs.Crossed.{crossed_job, crossed_read, crossed_start, eight_texts, net_of_a0, over, pin_b, rest_of_crossed, turn_up, up, with_cells};
 ghost use Rattle.route_examples.specs.Starting.{connection_text, corridor_job, corridor_start, fifteen_texts};
 ghost use Rattle.std.specs.Prelude.{codes, map, [], ◌∷◌, ◌≡◌};
 
@@ -34,4 +37,22 @@ pub fn eighth_connection_is_blocked()
 /// and the eighth is blocked by this cut.
 pub fn first_attempt_is_blocked()
     ensures { let g = graph_of mini_b in ComesOut (read g) [] (bare g) fifteen (Blocked first_seven eighth last_seven (cut g)) }
+{}
+
+/// Repair of the crossed toggle rips the two nets that its bad bit reaches, and no other: from this text it starts, with
+/// these eight connections in this order.
+pub fn crossed_starts()
+    ensures start { let g = graph_of mini_a in IsStart (crossed_job g) (crossed_start g) }
+    ensures order { let g = graph_of mini_a in map (connection_text g (toggle_cells g)) (crossed_start g).order ≡ eight_texts }
+{}
+
+/// The first connection takes the arc to the pad. The second has two paths of weight 2, over the tracks H1 and H4, and
+/// the first of them in order is its path.
+pub fn first_track_is_taken()
+    ensures first { let g = graph_of mini_a in
+        IsTheRoute [] (turn_over (crossed_read g) (with_cells g rest_of_crossed) (net_of_a0 g)) (up g) (wire_at g 0 1 (codes "PO")) }
+    ensures second { let g = graph_of mini_a in IsTheRoute [] (turn_up g) (over g (codes "H1")) (pin_b g) }
+    ensures weight { let g = graph_of mini_a in weight_of (roads_for (turn_up g)) (wire_weight []) (over g (codes "H1")) ≡ 2 }
+    ensures other { let g = graph_of mini_a in IsRoute (turn_up g) (over g (codes "H4")) (pin_b g) }
+    ensures as_light { let g = graph_of mini_a in weight_of (roads_for (turn_up g)) (wire_weight []) (over g (codes "H4")) ≡ 2 }
 {}
