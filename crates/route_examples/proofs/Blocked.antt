@@ -17,6 +17,7 @@ use Rattle.plain_routes.specs.PlainCuts.{is_blocked}
 use Rattle.plain_routes.proofs.Rules.{IsToldBy}
 use Rattle.plain_routes.proofs.Cuts.{blocked_law}
 use Rattle.route_examples.specs.Corridors.{read, bare, table_of, pad_of, to_pin, pad_net, table_net, down, over_u, after, inside, rim, cut, first_seven, eighth, last_seven, fifteen}
+use Rattle.route_examples.proofs.Attempted.{routed_then, stops}
 use Rattle.route_examples.proofs.Conditions.{g, told_by}
 use Rattle.route_examples.proofs.Ways.{first, second, third, fourth, fifth, sixth, seventh}
 
@@ -31,17 +32,6 @@ passes = refl
 
 pub blocked : IsBlocked turn (inside g) (rim g) (wire_at g 0 4 (codes "PO"))
 blocked = blocked_law mini_b turn told_7 (inside g) (rim g) (wire_at g 0 4 (codes "PO")) passes
-
-module _ (was : Circuit) (rims : List (List ℕ)) (y : Layout) (x : Connection) (rest : List Connection) (net : Source) (pin : ℕ)
-    (named : source_named y.cells x.source ≡ Some net) (at : pin_wire y.cells x ≡ pin) where
-  -- a connection with its path, and how the others come out
-  routed_then : (z : Layout) (path : List GraphArc) (o : Outcome) → z ≡ with_path y path → IsTheRoute rims (turn_over was y net) path pin → ComesOut was rims z rest o
-      → ComesOut was rims y (x ∷ rest) (behind x o)
-  routed_then z path o next way later = (net, (named, inl (path, (subst (λ w. IsTheRoute rims (turn_over was y net) path w) (sym at) way, (o, (subst (λ w. ComesOut was rims w rest o) next later, refl))))))
-
-  -- a connection that is blocked
-  stops : (c : Cut) → IsBlocked (turn_over was y net) c.inside c.rim pin → ComesOut was rims y (x ∷ rest) (Blocked [] x rest c)
-  stops c b = (net, (named, inr (c, (subst (λ w. IsBlocked (turn_over was y net) c.inside c.rim w) (sym at) b, refl))))
 
 abbrev rest_7 : List Connection
 rest_7 = eighth ∷ last_seven

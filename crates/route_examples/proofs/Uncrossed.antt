@@ -22,13 +22,13 @@ use Rattle.plain_routes.proofs.Starts.{start_law}
 use Rattle.route_examples.specs.Crossed.{with_cells, crossed_read, rest_of_crossed, eight, crossed_job, crossed_start, net_of_a0, up, over, after_up}
 use Rattle.route_examples.proofs.Conditions.{outputs_listed, the_way}
 
-abbrev g : Graph
+abbrev pub g : Graph
 g = graph_of mini_a
 
 toggle_outputs : (config : Config) → OutputsListed (configured (with_cells g config))
 toggle_outputs config = outputs_listed (configured (with_cells g config)) refl
 
-told_by : (config : Config) → drives_once (routing (configured (with_cells g config))) ≡ true → IsToldBy mini_a (configured (with_cells g config))
+pub told_by : (config : Config) → drives_once (routing (configured (with_cells g config))) ≡ true → IsToldBy mini_a (configured (with_cells g config))
 told_by config h = record { graph = has_graph mini_a; clean = clean_once (routing (configured (with_cells g config))) h; outputs = toggle_outputs config }
 
 told : IsToldBy mini_a (configured (crossed_job g).design)

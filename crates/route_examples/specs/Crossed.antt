@@ -1,7 +1,7 @@
 -- The crossed toggle on MINI-A, without the routes of the two nets that its bad bit reaches, and routed again.
-use Rattle.std.specs.Prelude.{ℕ, false, List, [], ◌∷◌, codes}
+use Rattle.std.specs.Prelude.{ℕ, take, false, List, [], ◌∷◌, codes}
 use Rattle.records.specs.Config.{Config}
-use Rattle.records.specs.Side.{D0}
+use Rattle.records.specs.Side.{Domain, D0}
 use Rattle.fabric.specs.Graph.{GraphArc, Graph}
 use Rattle.circuit.specs.Parts.{PartRef, Register, OfRegister, Source}
 use Rattle.circuit.specs.Cells.{InputWire, InputZero, InputOne}
@@ -14,7 +14,7 @@ use Rattle.attempts.specs.Jobs.{Job, State}
 use Rattle.mini.specs.MiniA.{mini_a}
 use Rattle.mini.specs.Toggle.{line, slice_text, output_text, clock_text, crossed, toggle_side}
 use Rattle.mini.specs.ToggleCells.{wire_at, toggle_cells}
-use Rattle.route_examples.specs.Corridors.{table_of, pad_of, section_without_arcs, arcs_through}
+use Rattle.route_examples.specs.Corridors.{table_of, pad_of, section_without_arcs, arcs_through, with_ways}
 
 -- a text with the toggle's cells
 abbrev pub with_cells : Graph → Config → Layout
@@ -79,14 +79,17 @@ crossed_job g = record { device = mini_a; design = with_cells g crossed; rounds 
 abbrev pub crossed_start : Graph → State
 crossed_start g = record { layout = with_cells g rest_of_crossed; order = eight; rims = []; moved = []; sides = toggle_side ∷ [] }
 
--- the net of copy 0's register
-abbrev pub net_of_a0 : Graph → Source
-net_of_a0 g = record {
-  part = register_of (codes "a0");
-  domain = D0;
-  kind = OfRegister (record { input = InputWire (wire_at g 1 1 (codes "F")); enable = InputOne; reset = InputZero; set = false; clock = InputWire (wire_at g 1 1 (codes "CK")); out = wire_at g 1 1 (codes "Q") });
-  out = wire_at g 1 1 (codes "Q");
+-- the net of a register
+abbrev pub register_net : Graph → List ℕ → Domain → ℕ → Source
+register_net g name domain column = record {
+  part = register_of name;
+  domain = domain;
+  kind = OfRegister (record { input = InputWire (wire_at g 1 column (codes "F")); enable = InputOne; reset = InputZero; set = false; clock = InputWire (wire_at g 1 column (codes "CK")); out = wire_at g 1 column (codes "Q") });
+  out = wire_at g 1 column (codes "Q");
 }
+
+abbrev pub net_of_a0 : Graph → Source
+net_of_a0 g = register_net g (codes "a0") D0 1
 
 -- from the register up to its pad, and over a track to pin B
 abbrev pub up : Graph → List GraphArc
@@ -94,6 +97,23 @@ up g = arcs_through g (wire_at g 1 1 (codes "Q") ∷ wire_at g 0 1 (codes "PO") 
 
 abbrev pub over : Graph → List ℕ → List GraphArc
 over g track = arcs_through g (wire_at g 1 1 (codes "Q") ∷ wire_at g 1 1 track ∷ wire_at g 1 1 (codes "B") ∷ [])
+
+-- the paths of all eight: up, then over H1 from copy 0 to each slice; up, then over H0 from copy 2 to each slice
+abbrev pub eight_ways : Graph → List (List GraphArc)
+eight_ways g =
+    up g
+    ∷ over g (codes "H1")
+    ∷ arcs_through g (wire_at g 1 1 (codes "H1") ∷ wire_at g 1 2 (codes "H1") ∷ wire_at g 1 2 (codes "B") ∷ [])
+    ∷ arcs_through g (wire_at g 1 2 (codes "H1") ∷ wire_at g 1 3 (codes "H1") ∷ wire_at g 1 3 (codes "B") ∷ [])
+    ∷ arcs_through g (wire_at g 1 3 (codes "Q") ∷ wire_at g 0 3 (codes "PO") ∷ [])
+    ∷ arcs_through g (wire_at g 1 3 (codes "Q") ∷ wire_at g 1 3 (codes "H0") ∷ wire_at g 1 2 (codes "H0") ∷ wire_at g 1 1 (codes "H0") ∷ wire_at g 1 1 (codes "A") ∷ [])
+    ∷ arcs_through g (wire_at g 1 2 (codes "H0") ∷ wire_at g 1 2 (codes "A") ∷ [])
+    ∷ arcs_through g (wire_at g 1 3 (codes "H0") ∷ wire_at g 1 3 (codes "A") ∷ [])
+    ∷ []
+
+-- where so many are routed
+abbrev pub uncrossed : Graph → ℕ → Layout
+uncrossed g n = with_ways (with_cells g rest_of_crossed) (take n (eight_ways g))
 
 -- where the first connection is routed
 abbrev pub after_up : Graph → Layout
