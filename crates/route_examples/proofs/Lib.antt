@@ -1,7 +1,8 @@
 pub mod Conditions
 pub mod Attempted
-pub mod Ways
-pub mod Blocked
+pub mod FirstAttempt
+pub mod SecondAttempt
 pub mod Started
+pub mod Answered
 pub mod Uncrossed
 pub mod Mended

@@ -1,5 +1,5 @@
 -- Where repair of the corridor starts.
-use Rattle.std.proofs.Common.{◌≡◌, true, refl}
+use Rattle.std.proofs.Common.{◌≡◌, ℕ, true, refl}
 use Rattle.repair.specs.Layouts.{configured}
 use Rattle.attempts.specs.Starts.{IsStart}
 use Rattle.mini_b.specs.MiniB.{mini_b}
@@ -12,14 +12,14 @@ use Rattle.route_examples.specs.Corridors.{without_arcs, fifteen}
 use Rattle.route_examples.specs.Starting.{corridor_job, corridor_start}
 use Rattle.route_examples.proofs.Conditions.{g, told_by}
 
-told : IsToldBy mini_b (configured (corridor_job g).design)
-told = told_by corridor refl
+told : (rounds : ℕ) → IsToldBy mini_b (configured (corridor_job g rounds).design)
+told rounds = told_by corridor refl
 
-rest : rest_of (corridor_job g).rip mini_b corridor (configured (corridor_job g).design) ≡ without_arcs corridor
-rest = refl
+rest : (rounds : ℕ) → rest_of (corridor_job g rounds).rip mini_b corridor (configured (corridor_job g rounds).design) ≡ without_arcs corridor
+rest rounds = refl
 
-ordered : is_order (corridor_cells g) (ripped_connections (corridor_job g)) fifteen ≡ true
-ordered = refl
+ordered : (rounds : ℕ) → is_order (corridor_cells g) (ripped_connections (corridor_job g rounds)) fifteen ≡ true
+ordered rounds = refl
 
-pub started : IsStart (corridor_job g) (corridor_start g)
-started = start_law (corridor_job g) told (corridor_start g) refl rest refl refl ordered refl refl refl
+pub started : (rounds : ℕ) → IsStart (corridor_job g rounds) (corridor_start g)
+started rounds = start_law (corridor_job g rounds) (told rounds) (corridor_start g) refl (rest rounds) refl refl (ordered rounds) refl refl refl

@@ -1,5 +1,5 @@
 -- The corridor on MINI-B, ripped whole and routed again, connection by connection.
-use Rattle.std.specs.Prelude.{ℕ, List, [], ◌∷◌, ◌++◌, map, filter, take, ◌==◌, ◌&&◌, codes}
+use Rattle.std.specs.Prelude.{ℕ, ◌+◌, List, [], ◌∷◌, ◌++◌, map, filter, take, ◌==◌, ◌&&◌, codes}
 use Rattle.records.specs.Config.{TileText, Config}
 use Rattle.records.specs.Side.{Domain}
 use Rattle.fabric.specs.Graph.{GraphArc, Graph}
@@ -144,3 +144,47 @@ rim_texts = codes "R1C1/D" ∷ codes "R1C2/D" ∷ codes "R1C2/U" ∷ codes "R1C3
 
 abbrev pub cut : Graph → Cut
 cut g = record { inside = inside g; rim = rim g }
+
+-- The paths of the second attempt, which begins with the eighth connection: v0 takes the track U from column 2 on.
+abbrev pub v0_over_u : Graph → List GraphArc
+v0_over_u g = arcs_through g (wire_at g 1 2 (codes "F") ∷ wire_at g 1 2 (codes "U") ∷ wire_at g 1 3 (codes "U") ∷ wire_at g 1 4 (codes "U") ∷ wire_at g 0 4 (codes "PO") ∷ [])
+
+-- u0 takes the track V
+abbrev pub u0_over_v : Graph → List GraphArc
+u0_over_v g = arcs_through g (wire_at g 1 1 (codes "F") ∷ wire_at g 1 1 (codes "V") ∷ wire_at g 1 2 (codes "V") ∷ wire_at g 1 3 (codes "V") ∷ wire_at g 1 3 (codes "D") ∷ [])
+
+-- in copies 1 and 2, from the column of v on
+abbrev pub to_pad_over_u : Graph → ℕ → List GraphArc
+to_pad_over_u g c =
+    arcs_through g (wire_at g 1 c (codes "F") ∷ wire_at g 1 c (codes "U") ∷ wire_at g 1 (c + 1) (codes "U") ∷ wire_at g 1 (c + 2) (codes "U") ∷ wire_at g 1 (c + 3) (codes "U") ∷ wire_at g 0 (c + 3) (codes "PO") ∷ [])
+
+-- and from the column of u on
+abbrev pub to_pin_over_v : Graph → ℕ → List GraphArc
+to_pin_over_v g c = arcs_through g (wire_at g 1 c (codes "F") ∷ wire_at g 1 c (codes "V") ∷ wire_at g 1 (c + 1) (codes "V") ∷ wire_at g 1 (c + 1) (codes "D") ∷ [])
+
+-- from w to the pad above it
+abbrev pub up_to_pad : Graph → ℕ → List GraphArc
+up_to_pad g c = arcs_through g (wire_at g 1 c (codes "F") ∷ wire_at g 0 c (codes "PO") ∷ [])
+
+abbrev pub second_ways : Graph → List (List GraphArc)
+second_ways g =
+    v0_over_u g
+    ∷ down g 1
+    ∷ down g 2
+    ∷ down g 6
+    ∷ down g 7
+    ∷ down g 11
+    ∷ down g 12
+    ∷ u0_over_v g
+    ∷ up_to_pad g 3
+    ∷ to_pad_over_u g 6
+    ∷ to_pin_over_v g 7
+    ∷ up_to_pad g 8
+    ∷ to_pad_over_u g 11
+    ∷ to_pin_over_v g 12
+    ∷ up_to_pad g 13
+    ∷ []
+
+-- where so many connections of the second attempt are routed
+abbrev pub again : Graph → ℕ → Layout
+again g n = with_ways (bare g) (take n (second_ways g))

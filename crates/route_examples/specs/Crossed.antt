@@ -1,5 +1,5 @@
 -- The crossed toggle on MINI-A, without the routes of the two nets that its bad bit reaches, and routed again.
-use Rattle.std.specs.Prelude.{ℕ, take, false, List, [], ◌∷◌, codes}
+use Rattle.std.specs.Prelude.{ℕ, ◌+◌, take, false, List, [], ◌∷◌, codes}
 use Rattle.records.specs.Config.{Config}
 use Rattle.records.specs.Side.{Domain, D0}
 use Rattle.fabric.specs.Graph.{GraphArc, Graph}
@@ -98,18 +98,23 @@ up g = arcs_through g (wire_at g 1 1 (codes "Q") ∷ wire_at g 0 1 (codes "PO") 
 abbrev pub over : Graph → List ℕ → List GraphArc
 over g track = arcs_through g (wire_at g 1 1 (codes "Q") ∷ wire_at g 1 1 track ∷ wire_at g 1 1 (codes "B") ∷ [])
 
--- the paths of all eight: up, then over H1 from copy 0 to each slice; up, then over H0 from copy 2 to each slice
+-- from one slice to the next over H1, and to its pin B
+abbrev pub on_to : Graph → ℕ → List GraphArc
+on_to g column = arcs_through g (wire_at g 1 column (codes "H1") ∷ wire_at g 1 (column + 1) (codes "H1") ∷ wire_at g 1 (column + 1) (codes "B") ∷ [])
+
+-- copy 2: up to its pad, over H0 to the first slice, and from there to the pins A of the others
+abbrev pub up_from_a2 : Graph → List GraphArc
+up_from_a2 g = arcs_through g (wire_at g 1 3 (codes "Q") ∷ wire_at g 0 3 (codes "PO") ∷ [])
+
+abbrev pub over_h0 : Graph → List GraphArc
+over_h0 g = arcs_through g (wire_at g 1 3 (codes "Q") ∷ wire_at g 1 3 (codes "H0") ∷ wire_at g 1 2 (codes "H0") ∷ wire_at g 1 1 (codes "H0") ∷ wire_at g 1 1 (codes "A") ∷ [])
+
+abbrev pub off_h0 : Graph → ℕ → List GraphArc
+off_h0 g column = arcs_through g (wire_at g 1 column (codes "H0") ∷ wire_at g 1 column (codes "A") ∷ [])
+
+-- the paths of all eight
 abbrev pub eight_ways : Graph → List (List GraphArc)
-eight_ways g =
-    up g
-    ∷ over g (codes "H1")
-    ∷ arcs_through g (wire_at g 1 1 (codes "H1") ∷ wire_at g 1 2 (codes "H1") ∷ wire_at g 1 2 (codes "B") ∷ [])
-    ∷ arcs_through g (wire_at g 1 2 (codes "H1") ∷ wire_at g 1 3 (codes "H1") ∷ wire_at g 1 3 (codes "B") ∷ [])
-    ∷ arcs_through g (wire_at g 1 3 (codes "Q") ∷ wire_at g 0 3 (codes "PO") ∷ [])
-    ∷ arcs_through g (wire_at g 1 3 (codes "Q") ∷ wire_at g 1 3 (codes "H0") ∷ wire_at g 1 2 (codes "H0") ∷ wire_at g 1 1 (codes "H0") ∷ wire_at g 1 1 (codes "A") ∷ [])
-    ∷ arcs_through g (wire_at g 1 2 (codes "H0") ∷ wire_at g 1 2 (codes "A") ∷ [])
-    ∷ arcs_through g (wire_at g 1 3 (codes "H0") ∷ wire_at g 1 3 (codes "A") ∷ [])
-    ∷ []
+eight_ways g = up g ∷ over g (codes "H1") ∷ on_to g 1 ∷ on_to g 2 ∷ up_from_a2 g ∷ over_h0 g ∷ off_h0 g 2 ∷ off_h0 g 3 ∷ []
 
 -- where so many are routed
 abbrev pub uncrossed : Graph → ℕ → Layout

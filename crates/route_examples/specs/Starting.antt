@@ -11,9 +11,9 @@ use Rattle.mini_b.specs.MiniB.{mini_b}
 use Rattle.mini_b.specs.Corridor.{corridor, corridor_side}
 use Rattle.route_examples.specs.Corridors.{with_corridor, bare, fifteen}
 
--- the corridor, to be ripped whole
-abbrev pub corridor_job : Graph → Job
-corridor_job g = record { device = mini_b; design = with_corridor g corridor; rounds = 1; rip = RipAll }
+-- the corridor, to be ripped whole, with so many attempts at most
+abbrev pub corridor_job : Graph → ℕ → Job
+corridor_job g rounds = record { device = mini_b; design = with_corridor g corridor; rounds = rounds; rip = RipAll }
 
 -- the text without arc lines, and the fifteen connections
 abbrev pub corridor_start : Graph → State

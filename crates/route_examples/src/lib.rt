@@ -15,11 +15,11 @@ ghost use Rattle.repair.specs.Routes.{IsBlocked, IsRoute, IsTheRoute, roads_for,
 ghost use Rattle.route_examples.specs.Corridors.{after, bare, cut, eighth, fifteen, first_seven, inside, inside_texts, last_seven, over_u, read, rim, rim_texts, table_net};
 ghost use Rattle.route_examples.specs.Crossed.{crossed_job, crossed_read, crossed_start, eight_texts, net_of_a0, over, pin_b, rest_of_crossed, turn_up, up, with_cells};
 ghost use Rattle.route_examples.specs.Starting.{connection_text, corridor_job, corridor_start, fifteen_texts};
-ghost use Rattle.std.specs.Prelude.{codes, map, [], ◌∷◌, ◌≡◌};
+ghost use Rattle.std.specs.Prelude.{codes, map, [], ◌∷◌, ◌≡◌, ℕ};
 
 /// Repair of the whole corridor starts from its text without arc lines, with these fifteen connections in this order.
 pub fn corridor_starts()
-    ensures start { let g = graph_of mini_b in IsStart (corridor_job g) (corridor_start g) }
+    ensures start { let g = graph_of mini_b in (rounds : ℕ) → IsStart (corridor_job g rounds) (corridor_start g) }
     ensures order { let g = graph_of mini_b in map (connection_text g (bare g).cells) (corridor_start g).order ≡ fifteen_texts }
 {}
 

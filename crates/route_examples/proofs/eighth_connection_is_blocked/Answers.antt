@@ -1,6 +1,6 @@
 use Rattle.std.proofs.Common.{refl}
 use Rattle.std.specs.Fmt.{digits}
-use Rattle.route_examples.proofs.Blocked.{blocked}
+use Rattle.route_examples.proofs.FirstAttempt.{blocked}
 use Rattle.route_examples.proofs.eighth_connection_is_blocked.Goals as goal
 
 pub returns-clause-seventh : goal.returns-clause-seventh
