@@ -1,7 +1,7 @@
 -- The plain lists of ripped nets and connections, the text without routes and the test of an order are exact.
-use Rattle.std.proofs.Common.{◌≡◌, ℕ, Bool, true, false, ◌⊎◌, ◌↔◌, inl, inr, List, [], ◌∷◌, ◌++◌, map, filter, Option, Some, None, cond, refl, sym, ap, subst, ◌∙◌}
-use Rattle.std.specs.Prelude.{flat_map, not, ◌&&◌, option_and_then}
-use Rattle.std.specs.List.{list_any, list_all}
+use Rattle.std.proofs.Common.{◌≡◌, ℕ, Bool, true, false, ◌↔◌, inl, inr, List, [], ◌∷◌, ◌++◌, map, filter, Option, Some, None, cond, refl, sym, subst}
+use Rattle.std.specs.Prelude.{not, ◌&&◌, option_and_then}
+use Rattle.std.specs.List.{list_any}
 use Rattle.std.specs.Option.{option_map_or}
 use Rattle.std.specs.Ordering.{is_lt}
 use Rattle.std.specs.declared.cmp.Ordering.{Ordering}
@@ -21,9 +21,8 @@ use Rattle.fabric.specs.Image.{tile_named, arc_of_line}
 use Rattle.fabric.specs.MuxBits.{mux_bits, is_mux_bit}
 use Rattle.circuit.specs.Cells.{Cells}
 use Rattle.circuit.specs.Parts.{Source, sources}
-use Rattle.circuit.specs.Circuits.{Connection, IsConnection}
+use Rattle.circuit.specs.Circuits.{Connection}
 use Rattle.upset.specs.Configured.{Configured}
-use Rattle.upset.specs.Roots.{IsRoot}
 use Rattle.upset.specs.Safe.{IsBad, only}
 use Rattle.upset_laws.specs.PlainUpset.{hit_wires, short_sources, is_bad}
 use Rattle.upset_laws.proofs.PlainDomains.{hits_law, shorts_law, bad_law}
@@ -33,7 +32,7 @@ use Rattle.repair.specs.Nets.{nets, clock_nets, Rip, RipUnsafe, RipAll, IsReache
 use Rattle.repair.specs.Plain.{IsPlain}
 use Rattle.repair.specs.Ripping.{IsRippedLine, IsRest}
 use Rattle.repair.specs.Turns.{routing}
-use Rattle.attempts.specs.Jobs.{Job, State, read_of, IsRippedFirst, IsRippedPart}
+use Rattle.attempts.specs.Jobs.{Job, State, read_of, IsRippedPart}
 use Rattle.attempts.specs.Starts.{IsRippedAtStart, IsStart}
 use Rattle.attempts.specs.Wires.{connection_cmp}
 use Rattle.plain_routes.specs.PlainParts.{same_part, connections, is_listed}
@@ -110,8 +109,13 @@ module _ (device : Device) (k : Configured) (p : IsToldBy device k) where
   unfolding FeedsBad begins
   reached_to net r = elim r.disturbed [
     | inl hit ↦ (r.wire, (bad_begin r.bit r.wire r.mux_bit r.bad (in_left (hit_wires k (only r.bit)) (short_sources k (only r.bit)) r.wire ((hits_law device k p.graph (only r.bit) r.wire).1 hit)), r.feeds))
-    | inr x ↦ (x.0, (bad_begin r.bit x.0 r.mux_bit r.bad (in_right (hit_wires k (only r.bit)) (short_sources k (only r.bit)) x.0 ((shorts_law device k p.graph (only r.bit) x.0).1 x.1.0)),
-        feeds_back (routing k) net x.0 r.wire x.1.1 r.feeds))
+    | inr x ↦ (
+      x.0,
+      (
+        bad_begin r.bit x.0 r.mux_bit r.bad (in_right (hit_wires k (only r.bit)) (short_sources k (only r.bit)) x.0 ((shorts_law device k p.graph (only r.bit) x.0).1 x.1.0)),
+        feeds_back (routing k) net x.0 r.wire x.1.1 r.feeds,
+      ),
+    )
   ]
 
   tells_reached : (net : ℕ) → Tells (has k.graph.outputs net && list_any (has (below (routing k).links net)) (bad_wires k)) (IsReached k net)
@@ -129,8 +133,7 @@ module _ (device : Device) (k : Configured) (p : IsToldBy device k) where
     pub ripped_law : (net : ℕ) → In (ripped_nets rip device k) net ↔ IsRipped rip device k net
     ripped_law net =
         let chosen = chosen_law rip (filter (λ n. not (has (clock_nets k.cells) n)) (nets device k.graph k.side)) net in
-        let free = filtered (λ n. not (has (clock_nets k.cells) n)) (λ n. In (clock_nets k.cells) n → ⊥) (nets device k.graph k.side) (λ n i. tells_not (tells_has (clock_nets k.cells) n)) net in
-        (
+        let free = filtered (λ n. not (has (clock_nets k.cells) n)) (λ n. In (clock_nets k.cells) n → ⊥) (nets device k.graph k.side) (λ n i. tells_not (tells_has (clock_nets k.cells) n)) net in (
           (λ i. let c = chosen.0 i in let f = free.0 c.0 in record { is_net = f.0; no_clock = f.1; chosen = c.1 }),
           (λ r. chosen.1 (free.1 (r.is_net, r.no_clock), r.chosen)),
         )

@@ -1,10 +1,9 @@
 -- What the repair of the corridor answers.
-use Rattle.std.proofs.Common.{◌≡◌, ◌<◌, [], ◌∷◌, drop, codes, refl, arith}
+use Rattle.std.proofs.Common.{[], ◌∷◌, drop, codes, refl, arith}
 use Rattle.upset.specs.Safe.{IsSafe}
 use Rattle.upset_laws.proofs.PlainDomains.{safe_law}
 use Rattle.repair.specs.Layouts.{configured}
-use Rattle.attempts.specs.Attempts.{AttemptComplete, EndRounds, Routed, Attempt, blocked_event, no_route, with_first, enough, comes_first, completes, IsAnswer, Ended, ended}
-use Rattle.attempts.specs.Turns.{Complete, Blocked}
+use Rattle.attempts.specs.Attempts.{AttemptComplete, EndRounds, Routed, blocked_event, no_route, enough, comes_first, completes, IsAnswer, Ended, ended}
 use Rattle.mini_b.specs.MiniB.{mini_b}
 use Rattle.mini_b.specs.Corridor.{corridor}
 use Rattle.plain_routes.proofs.Rules.{IsToldBy}

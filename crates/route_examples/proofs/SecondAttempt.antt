@@ -1,5 +1,5 @@
 -- The second attempt on the corridor is complete, and gives the corridor back.
-use Rattle.std.proofs.Common.{◌≡◌, ℕ, true, List, [], ◌∷◌, ◌++◌, Some, codes, refl, subst}
+use Rattle.std.proofs.Common.{◌≡◌, ℕ, List, [], ◌∷◌, ◌++◌, codes, refl, subst}
 use Rattle.records.specs.Side.{D0, D1, D2}
 use Rattle.circuit.specs.Parts.{Source}
 use Rattle.circuit.specs.Circuits.{Connection}

@@ -1,21 +1,33 @@
 //! Worked examples of repair on the small devices, each the contract of a function with an empty body.
 #![tactic(auto)]
 
+ghost use Rattle.attempts.specs.Attempts.{AttemptComplete, EndRounds, Ended, IsAnswer, Routed, blocked_event, no_route};
 ghost use Rattle.attempts.specs.Starts.{IsStart};
-ghost use Rattle.attempts.specs.Turns.{Blocked, ComesOut};
+ghost use Rattle.attempts.specs.Turns.{Blocked, Complete, ComesOut};
+ghost use Rattle.fabric.specs.MuxBits.{bit_cmp, mux_bits};
+ghost use Rattle.fabric_laws.specs.Insertion.{in_order};
 ghost use Rattle.fabric_laws.specs.PlainGraph.{graph_of};
 ghost use Rattle.mini.specs.MiniA.{mini_a};
 ghost use Rattle.mini.specs.Spoken.{text_of};
 ghost use Rattle.mini.specs.ToggleCells.{toggle_cells, wire_at};
+ghost use Rattle.mini.specs.Toggle.{toggle};
+ghost use Rattle.mini_b.specs.Corridor.{corridor};
 ghost use Rattle.mini_b.specs.MiniB.{mini_b};
 ghost use Rattle.records.specs.Side.{D0};
-ghost use Rattle.repair.specs.Layouts.{turn_over};
+ghost use Rattle.repair.specs.Layouts.{configured, turn_over};
 ghost use Rattle.paths.specs.Paths.{weight_of};
 ghost use Rattle.repair.specs.Routes.{IsBlocked, IsRoute, IsTheRoute, roads_for, wire_weight};
-ghost use Rattle.route_examples.specs.Corridors.{after, bare, cut, eighth, fifteen, first_seven, inside, inside_texts, last_seven, over_u, read, rim, rim_texts, table_net};
-ghost use Rattle.route_examples.specs.Crossed.{crossed_job, crossed_read, crossed_start, eight_texts, net_of_a0, over, pin_b, rest_of_crossed, turn_up, up, with_cells};
+ghost use Rattle.route_examples.specs.Corridors.{after, bare, cut, eighth, fifteen, first_seven, inside, inside_texts, last_seven, over_u, read, rim, rim_texts, second_ways, table_net, u0_over_v, v0_over_u, with_corridor, with_ways};
+ghost use Rattle.route_examples.specs.Crossed.{crossed_job, crossed_read, crossed_start, eight_texts, eight_ways, net_of_a0, over, pin_b, rest_of_crossed, turn_up, up, with_cells};
 ghost use Rattle.route_examples.specs.Starting.{connection_text, corridor_job, corridor_start, fifteen_texts};
-ghost use Rattle.std.specs.Prelude.{codes, map, [], ◌∷◌, ◌≡◌, ℕ};
+ghost use Rattle.std.specs.Prelude.{codes, length, map, [], ◌++◌, ◌∷◌, ◌≡◌, ℕ};
+ghost use Rattle.upset.specs.Safe.{IsSafe};
+
+/// The corridor on MINI-B is safe as it is written.
+pub fn corridor_is_safe()
+    ensures safe { let g = graph_of mini_b in IsSafe (configured (with_corridor g corridor)) }
+    ensures bits { length (in_order bit_cmp (mux_bits (graph_of mini_b))) ≡ 196 }
+{}
 
 /// Repair of the whole corridor starts from its text without arc lines, with these fifteen connections in this order.
 pub fn corridor_starts()
@@ -39,6 +51,24 @@ pub fn first_attempt_is_blocked()
     ensures { let g = graph_of mini_b in ComesOut (read g) [] (bare g) fifteen (Blocked first_seven eighth last_seven (cut g)) }
 {}
 
+/// With one attempt at most, repair of the corridor ends without a route.
+pub fn one_round_is_not_enough()
+    ensures { let g = graph_of mini_b in
+        IsAnswer (corridor_job g 1) (Ended (blocked_event (corridor_start g) eighth ∷ []) (no_route (corridor_start g) EndRounds eighth (cut g))) }
+{}
+
+/// With more, the blocked connection comes first in the second attempt, which is complete and gives the corridor: v0
+/// takes the track U of columns 2, 3 and 4, and u0 goes over the track V.
+pub fn second_attempt_is_complete()
+    ensures first { let g = graph_of mini_b in map (λ a. text_of g a.sink) (v0_over_u g) ≡ codes "R1C2/U" ∷ codes "R1C3/U" ∷ codes "R1C4/U" ∷ codes "R0C4/PO" ∷ [] }
+    ensures over_v { let g = graph_of mini_b in map (λ a. text_of g a.sink) (u0_over_v g) ≡ codes "R1C1/V" ∷ codes "R1C2/V" ∷ codes "R1C3/V" ∷ codes "R1C3/D" ∷ [] }
+    ensures paths { let g = graph_of mini_b in with_ways (bare g) (second_ways g) ≡ with_corridor g corridor }
+    ensures comes_out { let g = graph_of mini_b in
+        ComesOut (read g) (rim g ∷ []) (bare g) (eighth ∷ (first_seven ++ last_seven)) (Complete (with_corridor g corridor)) }
+    ensures answer { let g = graph_of mini_b in
+        IsAnswer (corridor_job g 32) (Ended (blocked_event (corridor_start g) eighth ∷ AttemptComplete ∷ []) (Routed (with_corridor g corridor) 15)) }
+{}
+
 /// Repair of the crossed toggle rips the two nets that its bad bit reaches, and no other: from this text it starts, with
 /// these eight connections in this order.
 pub fn crossed_starts()
@@ -55,4 +85,10 @@ pub fn first_track_is_taken()
     ensures weight { let g = graph_of mini_a in weight_of (roads_for (turn_up g)) (wire_weight []) (over g (codes "H1")) ≡ 2 }
     ensures other { let g = graph_of mini_a in IsRoute (turn_up g) (over g (codes "H4")) (pin_b g) }
     ensures as_light { let g = graph_of mini_a in weight_of (roads_for (turn_up g)) (wire_weight []) (over g (codes "H4")) ≡ 2 }
+{}
+
+/// So the crossed toggle is repaired in one attempt, and is then the toggle.
+pub fn crossed_becomes_the_toggle()
+    ensures paths { let g = graph_of mini_a in with_ways (with_cells g rest_of_crossed) (eight_ways g) ≡ with_cells g toggle }
+    ensures answer { let g = graph_of mini_a in IsAnswer (crossed_job g) (Ended (AttemptComplete ∷ []) (Routed (with_cells g toggle) 8)) }
 {}
