@@ -94,7 +94,7 @@ impl Names {
             return Ok(id);
         }
         let count = self.codes.len();
-        if count == MOST_WIRES {
+        if count >= MOST_WIRES {
             return Err(NamesError::Full);
         }
         let code = code_of(w).unwrap();
