@@ -1,5 +1,6 @@
 -- The faults of an arc and of an option, where the open mux or enum is known.
-use Rattle.std.proofs.Common.{◌≡◌, ℕ, List, [], ◌∷◌, ◌++◌, true, false, Option, Some, None, IfSome, Ok, Err, length, nat_lt, sym, ap, ◌∙◌}
+use Rattle.std.proofs.Common.{◌≡◌, ℕ, List, [], ◌∷◌, ◌++◌, true, false, Option, Some, None, IfSome, Result, Ok, Err, length, nat_lt, sym, ap, ◌∙◌}
+use Rattle.words.specs.OrMemory.{OrMemory}
 use Rattle.records.specs.Database.{Arc, Mux, WordSetting, EnumOption, EnumSetting}
 use Rattle.patterns.specs.Bits.{PatternBit}
 use Rattle.records.specs.Limits.{PatternBits}
@@ -66,3 +67,8 @@ error_carried (Some f) fault x y h = same_fault fault x y f h
 pub value_carried : {X Y : Type 0} (fault : Option DbFault) (x x' : X) (whole : X → Y) → unless_fault fault x ≡ Ok x' → unless_fault fault (whole x) ≡ Ok (whole x')
 value_carried None x x' whole h = let same : x ≡ x' = cc in ap (λ y. Ok (whole y)) same
 value_carried (Some f) x x' whole h = absurd (let no : ⊥ = cc in no)
+
+-- what is read into a part is read into the whole
+pub carried : {X Y U E : Type 0} (fault_of : E → Option DbFault) (result : Result U E) (fault : Option DbFault) (x x' : X) (whole : X → Y) → OrMemory (λ _. x') fault_of result (unless_fault fault x) → OrMemory (λ _. whole x') fault_of result (unless_fault fault (whole x))
+carried fault_of (Ok u) fault x x' whole h = value_carried fault x x' whole h
+carried fault_of (Err e) fault x x' whole h = error_carried (fault_of e) fault x (whole x) h

@@ -3,3 +3,4 @@ pub mod Known
 pub mod KnownEnds
 pub mod Heads
 pub mod Kinds
+pub mod Readings

@@ -1,15 +1,15 @@
 //! The fixed connections of a reading.
 
-ghost use Rattle.std.specs.Prelude.{◌≡◌, [], true, IfOk};
+ghost use Rattle.std.specs.Prelude.{◌≡◌, [], true, OnOk};
 ghost use Rattle.texts.specs.Names.{is_name};
 ghost use Rattle.grammars.specs.RowByRow.{with_connection};
+ghost use Rattle.bits_db.specs.Readings.{KnowsItsEnds};
 
 use super::Fixed;
 use super::row::name_of;
 use rr_ids::List;
 use std::alloc::{AllocError, Global};
 use std::collections::HashSet;
-use std::marker::Model;
 
 /// The ends of a connection, lent from the source.
 #[derive(Clone, Copy, PartialEq, Eq, Hash)]
@@ -18,7 +18,7 @@ struct Ends<'a> {
     source: &'a [u8],
 }
 
-/// The fixed connections that were read so far, each once.
+/// The fixed connections that were read so far, each once. Contracts see the fields, as of muxes.
 #[derive(Drop)]
 pub(crate) struct Connections<'a> {
     alloc: Global,
@@ -26,23 +26,11 @@ pub(crate) struct Connections<'a> {
     ends: HashSet<Ends<'a>>,
 }
 
-impl<'a> Model for Connections<'a> {
-    ghost use Rattle.std.specs.Prelude.{List as Seq};
-    ghost use Rattle.records.specs.Database as records;
-
-    ghost Value = { Seq records.Fixed };
-
-    ghost use Rattle.bits_db.specs.KnownEnds.{KnowsEnds};
-
-    ghost view = { λ c. c.connections };
-
-    ghost invariant = { λ c. KnowsEnds c.connections c.ends };
-}
-
 impl<'a> Connections<'a> {
     /// No connection was read yet.
     pub(crate) fn new(alloc: Global) -> Connections<'a>
-        ensures { result ≡ [] }
+        ensures none { result.connections ≡ [] }
+        ensures known { KnowsItsEnds result }
     {
         Connections {
             alloc,
@@ -53,41 +41,26 @@ impl<'a> Connections<'a> {
 
     /// The connections that were read.
     pub(crate) fn into_list(self) -> List<Fixed>
-        ensures { result ≡ self.entry }
+        ensures { result ≡ self.entry.connections }
     {
         let Connections { connections, .. } = self;
         connections
     }
 
-    /// The connections with one more, unless it is there.
-    pub(crate) fn with(
-        self,
-        sink: &'a [u8],
-        source: &'a [u8],
-    ) -> Result<Connections<'a>, AllocError>
+    /// Adds a connection, unless it is there.
+    pub(crate) fn add(&mut self, sink: &'a [u8], source: &'a [u8]) -> Result<(), AllocError>
         requires sink { is_name sink.now ≡ true }
         requires source { is_name source.now ≡ true }
-        ensures { IfOk result (λ c. c ≡ with_connection self.entry (record { sink = sink.now; source = source.now })) }
+        requires known { KnowsItsEnds self.old }
+        ensures connections { OnOk result (self.new.connections ≡ with_connection self.old.connections (record { sink = sink.now; source = source.now })) }
+        ensures known { OnOk result (KnowsItsEnds self.new) }
     {
-        let Connections {
-            alloc,
-            mut connections,
-            mut ends,
-        } = self;
-        if !ends.insert(Ends { sink, source })? {
-            return Ok(Connections {
-                alloc,
-                connections,
-                ends,
-            });
+        if !self.ends.insert(Ends { sink, source })? {
+            return Ok(());
         }
-        let sink = name_of(alloc, sink)?;
-        let source = name_of(alloc, source)?;
-        connections.push(Fixed { sink, source })?;
-        Ok(Connections {
-            alloc,
-            connections,
-            ends,
-        })
+        let sink = name_of(self.alloc, sink)?;
+        let source = name_of(self.alloc, source)?;
+        self.connections.push(Fixed { sink, source })?;
+        Ok(())
     }
 }

@@ -6,6 +6,7 @@ ghost use Rattle.texts.specs.Lines.{lines_of};
 ghost use Rattle.grammars.specs.BitsDb.{database_of};
 ghost use Rattle.grammars.specs.RowByRow.{nothing_read, read_lines};
 ghost use Rattle.bits_db.specs.Faults.{fault_of};
+ghost use Rattle.bits_db.specs.Readings.{reading_view};
 
 use reader::Reader;
 use std::alloc::Global;
@@ -16,6 +17,7 @@ mod database;
 mod enums;
 mod error;
 mod head;
+mod known;
 mod muxes;
 mod pattern;
 mod reader;
@@ -31,11 +33,11 @@ mod tests;
 
 // What is read behind all lines.
 fn read_all<'a>(alloc: Global, bytes: &'a [u8]) -> Result<Reader<'a>, DbError>
-    ensures { OrMemory (λ r. r) fault_of result (read_lines nothing_read (lines_of bytes.now)) }
+    ensures { OrMemory reading_view fault_of result (read_lines nothing_read (lines_of bytes.now)) }
 {
     let mut reader = Reader::new(alloc);
     for line in lines(bytes) {
-        reader = reader.with_line(&line)?;
+        reader.add_line(&line)?;
     }
     Ok(reader)
 }

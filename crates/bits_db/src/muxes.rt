@@ -1,24 +1,26 @@
 //! The muxes of a reading.
 
-ghost use Rattle.std.specs.Prelude.{◌≡◌, ◌∷◌, ◌++◌, [], map, true, Some as Present};
+ghost use Rattle.std.specs.Prelude.{◌≡◌, ◌∷◌, ◌++◌, [], map, true, OnOk, Some as Present};
 ghost use Rattle.words.specs.OrMemory.{OrMemory};
 ghost use Rattle.texts.specs.Names.{is_name};
 ghost use Rattle.grammars.specs.BitsDb.{arc_of as arc_of_words, arc_fault, bad_line_if, has_sink, last_of, unless_fault};
 ghost use Rattle.grammars.specs.RowByRow.{with_arc as with_one_arc};
 ghost use Rattle.bits_db.specs.Faults.{fault_of};
+ghost use Rattle.bits_db.specs.Readings.{KnowsItsMuxes};
 
+use super::known::forget_all;
 use super::row::{arc_of, name_of};
 use super::{Arc, DbError, Mux};
 use rr_ids::{Limit, List};
-use std::alloc::Global;
+use std::alloc::{AllocError, Global};
 use std::collections::HashSet;
-use std::marker::Model;
 use text_cut::Words;
 
 /// The most bits of a pattern.
 pub(crate) const MOST_BITS: usize = 32;
 
-/// The muxes that were read so far, of which the last may get more arcs.
+/// The muxes that were read so far, of which the last may get more arcs. Contracts see the fields, since the
+/// sets are in step with the list only until an error, behind which the muxes are not used.
 #[derive(Drop)]
 pub(crate) struct Muxes<'a> {
     alloc: Global,
@@ -27,23 +29,31 @@ pub(crate) struct Muxes<'a> {
     sources: HashSet<&'a [u8]>,
 }
 
-impl<'a> Model for Muxes<'a> {
-    ghost use Rattle.std.specs.Prelude.{List as Seq};
-    ghost use Rattle.records.specs.Database as records;
+// The arcs in just the room that they take.
+fn fitted(arcs: List<Arc>) -> List<Arc>
+    ensures { result ≡ arcs }
+{
+    let mut items = arcs.into_vec();
+    items.shrink_to_fit();
+    List::from_vec(items)
+}
 
-    ghost Value = { Seq records.Mux };
-
-    ghost use Rattle.bits_db.specs.Known.{KnowsMuxes};
-
-    ghost view = { λ m. m.muxes };
-
-    ghost invariant = { λ m. KnowsMuxes m.muxes m.sinks m.sources };
+// Gives back the room that the last mux doesn't need.
+fn fit_last(muxes: &mut List<Mux>) -> Result<(), AllocError>
+    ensures { OnOk result (muxes.new ≡ muxes.old) }
+{
+    let Some(Mux { sink, arcs }) = muxes.pop() else {
+        return Ok(());
+    };
+    let arcs = fitted(arcs);
+    muxes.push(Mux { sink, arcs })
 }
 
 impl<'a> Muxes<'a> {
     /// No mux was read yet.
     pub(crate) fn new(alloc: Global) -> Muxes<'a>
-        ensures { result ≡ [] }
+        ensures none { result.muxes ≡ [] }
+        ensures known { KnowsItsMuxes result }
     {
         Muxes {
             alloc,
@@ -55,80 +65,66 @@ impl<'a> Muxes<'a> {
 
     /// The muxes that were read.
     pub(crate) fn into_list(self) -> List<Mux>
-        ensures { result ≡ self.entry }
+        ensures { result ≡ self.entry.muxes }
     {
         let Muxes { muxes, .. } = self;
         muxes
     }
 
-    /// The muxes with one of another sink, which has no arcs yet.
-    pub(crate) fn with_sink(self, number: u32, sink: &'a [u8]) -> Result<Muxes<'a>, DbError>
-        requires { is_name sink.now ≡ true }
-        ensures { OrMemory (λ m. m) fault_of result (unless_fault (bad_line_if number (has_sink self.entry sink.now)) (self.entry ++ record { sink = sink.now; arcs = [] } ∷ [])) }
+    /// Adds a mux of another sink, which has no arcs yet.
+    pub(crate) fn add_sink(&mut self, number: u32, sink: &'a [u8]) -> Result<(), DbError>
+        requires name { is_name sink.now ≡ true }
+        requires known { KnowsItsMuxes self.old }
+        ensures muxes { OrMemory (λ _. self.new.muxes) fault_of result (unless_fault (bad_line_if number (has_sink self.old.muxes sink.now)) (self.old.muxes ++ record { sink = sink.now; arcs = [] } ∷ [])) }
+        ensures known { OnOk result (KnowsItsMuxes self.new) }
     {
-        let Muxes {
-            alloc,
-            mut muxes,
-            mut sinks,
-            ..
-        } = self;
-        if !sinks.insert(sink)? {
+        if !self.sinks.insert(sink)? {
             return Err(DbError::BadLine(number));
         }
-        let name = name_of(alloc, sink)?;
-        let arcs = List::new(alloc);
-        muxes.push(Mux { sink: name, arcs })?;
-        Ok(Muxes {
-            alloc,
-            muxes,
-            sinks,
-            sources: HashSet::new(alloc),
-        })
+        fit_last(&mut self.muxes)?;
+        let name = name_of(self.alloc, sink)?;
+        let arcs = List::new(self.alloc);
+        self.muxes.push(Mux { sink: name, arcs })?;
+        forget_all(self.alloc, &mut self.sources);
+        Ok(())
     }
 
-    /// The muxes behind a row of the last one, SOURCE BITS.
-    pub(crate) fn with_row(
-        self,
+    /// Adds a row of the last mux, SOURCE BITS.
+    pub(crate) fn add_row(
+        &mut self,
         number: u32,
         source: &'a [u8],
         bits: Words<'a>,
-    ) -> Result<Muxes<'a>, DbError>
-        ensures { let arc = arc_of_words (source.now ∷ map (λ w. w.text) bits.entry) in
-            OrMemory (λ m. m) fault_of result (unless_fault (arc_fault number arc (last_of self.entry)) (with_one_arc self.entry arc)) }
+    ) -> Result<(), DbError>
+        requires { KnowsItsMuxes self.old }
+        ensures muxes { let arc = arc_of_words (source.now ∷ map (λ w. w.text) bits.entry) in
+            OrMemory (λ _. self.new.muxes) fault_of result (unless_fault (arc_fault number arc (last_of self.old.muxes)) (with_one_arc self.old.muxes arc)) }
+        ensures known { OnOk result (KnowsItsMuxes self.new) }
     {
         let Some(arc) = arc_of(self.alloc, source, bits)? else {
             return Err(DbError::BadLine(number));
         };
-        self.with_arc(number, source, arc)
+        self.add_arc(number, source, arc)
     }
 
-    // The muxes with one more arc of the last one, where it has none of this source.
-    fn with_arc(self, number: u32, source: &'a [u8], arc: Arc) -> Result<Muxes<'a>, DbError>
-        requires { arc.source ≡ source.now }
-        ensures { OrMemory (λ m. m) fault_of result (unless_fault (arc_fault number (Present arc) (last_of self.entry)) (with_one_arc self.entry (Present arc))) }
+    // Adds an arc to the last mux, where it has none of this source.
+    fn add_arc(&mut self, number: u32, source: &'a [u8], arc: Arc) -> Result<(), DbError>
+        requires source { arc.source ≡ source.now }
+        requires known { KnowsItsMuxes self.old }
+        ensures muxes { OrMemory (λ _. self.new.muxes) fault_of result (unless_fault (arc_fault number (Present arc) (last_of self.old.muxes)) (with_one_arc self.old.muxes (Present arc))) }
+        ensures known { OnOk result (KnowsItsMuxes self.new) }
     {
-        let Muxes {
-            alloc,
-            mut muxes,
-            sinks,
-            mut sources,
-        } = self;
-        let Some(mut mux) = muxes.pop() else {
+        let Some(mut mux) = self.muxes.pop() else {
             return Err(DbError::BadLine(number));
         };
-        if !sources.insert(source)? {
+        if !self.sources.insert(source)? {
             return Err(DbError::BadLine(number));
         }
         if arc.bits.len() > MOST_BITS {
             return Err(DbError::TooLarge(Limit::Pattern));
         }
         mux.arcs.push(arc)?;
-        muxes.push(mux)?;
-        Ok(Muxes {
-            alloc,
-            muxes,
-            sinks,
-            sources,
-        })
+        self.muxes.push(mux)?;
+        Ok(())
     }
 }

@@ -1,11 +1,12 @@
 //! The words of a reading.
 
-ghost use Rattle.std.specs.Prelude.{◌≡◌, ◌∷◌, ◌++◌, [], map, true, Some as Present};
+ghost use Rattle.std.specs.Prelude.{◌≡◌, ◌∷◌, ◌++◌, [], map, true, OnOk};
 ghost use Rattle.words.specs.OrMemory.{OrMemory};
 ghost use Rattle.texts.specs.Names.{is_name};
 ghost use Rattle.grammars.specs.BitsDb.{bits_of, bits_fault, bad_line_if, has_word, unless_fault};
 ghost use Rattle.grammars.specs.RowByRow.{with_bits};
 ghost use Rattle.bits_db.specs.Faults.{fault_of};
+ghost use Rattle.bits_db.specs.Readings.{KnowsItsWords};
 
 use super::muxes::MOST_BITS;
 use super::row::{name_of, pattern_of};
@@ -13,10 +14,9 @@ use super::{DbError, WordSetting};
 use rr_ids::{Limit, List};
 use std::alloc::Global;
 use std::collections::HashSet;
-use std::marker::Model;
 use text_cut::Words;
 
-/// The words that were read so far, of which the last may get more bits.
+/// The words that were read so far, of which the last may get more bits. Contracts see the fields, as of muxes.
 #[derive(Drop)]
 pub(crate) struct WordSettings<'a> {
     alloc: Global,
@@ -24,24 +24,11 @@ pub(crate) struct WordSettings<'a> {
     names: HashSet<&'a [u8]>,
 }
 
-impl<'a> Model for WordSettings<'a> {
-    ghost use Rattle.std.specs.Prelude.{List as Seq};
-    ghost use Rattle.records.specs.Database as records;
-
-    ghost Value = { Seq records.WordSetting };
-
-    ghost use Rattle.grammars.specs.BitsDb.{has_word};
-    ghost use Rattle.bits_db.specs.Known.{HoldsJust};
-
-    ghost view = { λ w. w.settings };
-
-    ghost invariant = { λ w. HoldsJust w.names (has_word w.settings) };
-}
-
 impl<'a> WordSettings<'a> {
     /// No word was read yet.
     pub(crate) fn new(alloc: Global) -> WordSettings<'a>
-        ensures { result ≡ [] }
+        ensures none { result.settings ≡ [] }
+        ensures known { KnowsItsWords result }
     {
         WordSettings {
             alloc,
@@ -52,69 +39,51 @@ impl<'a> WordSettings<'a> {
 
     /// The words that were read.
     pub(crate) fn into_list(self) -> List<WordSetting>
-        ensures { result ≡ self.entry }
+        ensures { result ≡ self.entry.settings }
     {
         let WordSettings { settings, .. } = self;
         settings
     }
 
-    /// The words with one of another name, which has no bits yet.
-    pub(crate) fn with_name(self, number: u32, name: &'a [u8]) -> Result<WordSettings<'a>, DbError>
-        requires { is_name name.now ≡ true }
-        ensures { OrMemory (λ w. w) fault_of result (unless_fault (bad_line_if number (has_word self.entry name.now)) (self.entry ++ record { name = name.now; bits = [] } ∷ [])) }
+    /// Adds a word of another name, which has no bits yet.
+    pub(crate) fn add_name(&mut self, number: u32, name: &'a [u8]) -> Result<(), DbError>
+        requires name { is_name name.now ≡ true }
+        requires known { KnowsItsWords self.old }
+        ensures words { OrMemory (λ _. self.new.settings) fault_of result (unless_fault (bad_line_if number (has_word self.old.settings name.now)) (self.old.settings ++ record { name = name.now; bits = [] } ∷ [])) }
+        ensures known { OnOk result (KnowsItsWords self.new) }
     {
-        let WordSettings {
-            alloc,
-            mut settings,
-            mut names,
-        } = self;
-        if !names.insert(name)? {
+        if !self.names.insert(name)? {
             return Err(DbError::BadLine(number));
         }
-        let name = name_of(alloc, name)?;
-        let bits = List::new(alloc);
-        settings.push(WordSetting { name, bits })?;
-        Ok(WordSettings {
-            alloc,
-            settings,
-            names,
-        })
+        let name = name_of(self.alloc, name)?;
+        let bits = List::new(self.alloc);
+        self.settings.push(WordSetting { name, bits })?;
+        Ok(())
     }
 
-    /// The words behind a row of the last one, BITS. One was read already.
-    pub(crate) fn with_row(
-        self,
+    /// Adds a row of the last word, BITS. One was read already.
+    pub(crate) fn add_row(
+        &mut self,
         number: u32,
         first: &'a [u8],
         words: Words<'a>,
-    ) -> Result<WordSettings<'a>, DbError>
-        ensures { let bits = bits_of (first.now ∷ map (λ w. w.text) words.entry) in
-            OrMemory (λ w. w) fault_of result (unless_fault (bits_fault number bits) (with_bits self.entry bits)) }
+    ) -> Result<(), DbError>
+        requires { KnowsItsWords self.old }
+        ensures words { let bits = bits_of (first.now ∷ map (λ w. w.text) words.entry) in
+            OrMemory (λ _. self.new.settings) fault_of result (unless_fault (bits_fault number bits) (with_bits self.old.settings bits)) }
+        ensures known { OnOk result (KnowsItsWords self.new) }
     {
-        let WordSettings {
-            alloc,
-            mut settings,
-            names,
-        } = self;
-        let Some(bits) = pattern_of(alloc, first, words)? else {
+        let Some(bits) = pattern_of(self.alloc, first, words)? else {
             return Err(DbError::BadLine(number));
         };
         if bits.len() > MOST_BITS {
             return Err(DbError::TooLarge(Limit::Pattern));
         }
-        let Some(mut setting) = settings.pop() else {
-            return Ok(WordSettings {
-                alloc,
-                settings,
-                names,
-            });
+        let Some(mut setting) = self.settings.pop() else {
+            return Ok(());
         };
         setting.bits.push(bits)?;
-        settings.push(setting)?;
-        Ok(WordSettings {
-            alloc,
-            settings,
-            names,
-        })
+        self.settings.push(setting)?;
+        Ok(())
     }
 }

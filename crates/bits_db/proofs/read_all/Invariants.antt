@@ -1,8 +1,12 @@
 use Rattle.std.proofs.Common.{◌≡◌}
 use Rattle.texts.specs.Lines.{lines_of}
 use Rattle.grammars.specs.RowByRow.{nothing_read, read_lines}
+use Rattle.bits_db.specs.Readings.{reading_view, IsInStep}
 use Rattle.bits_db.proofs.read_all.Given as goal
 
 -- reading the lines that are left is reading all
 abbrev pub invariant-loop-line : goal.invariant-loop-line
-invariant-loop-line l = read_lines l.reader l.line-iterator ≡ read_lines nothing_read (lines_of l.fn.bytes)
+invariant-loop-line l = record {
+  rest : read_lines (reading_view l.reader) l.line-iterator ≡ read_lines nothing_read (lines_of l.fn.bytes);
+  known : IsInStep l.reader;
+}

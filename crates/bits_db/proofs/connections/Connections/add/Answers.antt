@@ -3,33 +3,26 @@ use Rattle.records.specs.Database.{Fixed}
 use Rattle.grammars.specs.RowByRow.{with_connection}
 use Rattle.bits_db.specs.declared.connections.Ends.{Ends}
 use Rattle.bits_db.proofs.Names.{not_false, not_true}
-use Rattle.bits_db.proofs.Ends.{connection_of, known_connection, new_connection, ends_with_one}
-use Rattle.bits_db.proofs.connections.Connections.with.Goals as goal
+use Rattle.bits_db.proofs.Ends.{connection_of, known_connection, new_connection}
+use Rattle.bits_db.proofs.connections.Connections.add.Goals as goal
 
 -- the connection of the names of its ends
 made : (sink sink' source source' : List ℕ) → sink ≡ sink' → source ≡ source' → ◌≡◌ {A = Fixed} (record { sink = sink; source = source }) (record { sink = sink'; source = source' })
 made sink sink' source source' p q =
     ap (λ (n : List ℕ). let f : Fixed = record { sink = n; source = source } in f) p ∙ ap (λ (n : List ℕ). let f : Fixed = record { sink = sink'; source = n } in f) q
 
-pub returns-then-not-branch : goal.returns-then-not-branch
-returns-then-not-branch c =
+pub returns-then-not-branch-clause-connections : goal.returns-then-not-branch-clause-connections
+returns-then-not-branch-clause-connections c =
     let key : Ends = record { sink = c.args.sink; source = c.args.source } in
     let known = not_false _ (sym c.in_ok-insert.ensures.added ∙ c.if-not-branch.true) in
-    let has = sym (c.self.invariant key) ∙ known in
-    sym (ap (λ cs. with_connection cs (connection_of key)) (sym c.self.view_is) ∙ known_connection c.self.inside.connections (connection_of key) has)
+    let has = sym (c.requires.known key) ∙ known in
+    sym (known_connection c.args.self.now.connections (connection_of key) has)
 
-pub invariant_of-result-2 : goal.invariant_of-result-2
-invariant_of-result-2 c =
-    let key : Ends = record { sink = c.args.sink; source = c.args.source } in
-    let made_of = made c.in_ok-sink.sink c.args.sink.now c.in_ok-source.source c.args.source.now c.in_ok-sink.ensures c.in_ok-source.ensures in
-    rw c.in_ok-push.ensures.ok
-    (ends_with_one c.self.inside.connections (record { sink = c.in_ok-sink.sink; source = c.in_ok-source.source }) c.self.inside.ends c.insert.new.self key made_of c.self.invariant c.in_ok-insert.ensures.updates.0)
-
-pub returns : goal.returns
-returns c =
+pub returns-clause-connections : goal.returns-clause-connections
+returns-clause-connections c =
     let key : Ends = record { sink = c.args.sink; source = c.args.source } in
     let known = not_true _ (sym c.in_ok-insert.ensures.added ∙ c.if-not-branch.false) in
-    let has = sym (c.self.invariant key) ∙ known in
+    let has = sym (c.requires.known key) ∙ known in
     let made_of = made c.in_ok-sink.sink c.args.sink.now c.in_ok-source.source c.args.source.now c.in_ok-sink.ensures c.in_ok-source.ensures in
-    c.in_ok-push.ensures.ok ∙ ap (λ f. c.self.inside.connections ++ f ∷ []) made_of
-    ∙ sym (ap (λ cs. with_connection cs (connection_of key)) (sym c.self.view_is) ∙ new_connection c.self.inside.connections (connection_of key) has)
+    c.in_ok-push.ensures.ok ∙ ap (λ f. c.args.self.now.connections ++ f ∷ []) made_of
+    ∙ sym (new_connection c.args.self.now.connections (connection_of key) has)

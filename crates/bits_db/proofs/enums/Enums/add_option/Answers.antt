@@ -7,27 +7,21 @@ use Rattle.grammars.proofs.Lasts.{with_last_pushed}
 use Rattle.bits_db.specs.Known.{last_options}
 use Rattle.bits_db.proofs.Names.{not_false, not_true, entry_known, entries_with_one, names_with_last}
 use Rattle.bits_db.proofs.Entries.{second_option, long_option, new_option}
-use Rattle.bits_db.proofs.enums.Enums.with_option.Goals as goal
+use Rattle.bits_db.proofs.enums.Enums.add_option.Goals as goal
 
-pub returns-then-not-branch : goal.returns-then-not-branch
-returns-then-not-branch c =
-    let known = not_false _ (sym c.in_ok-insert.ensures.added ∙ c.if-not-branch.true) in
-    let has = entry_known (λ (o : EnumOption). o.value) (λ (e : EnumSetting). e.options) c.self.inside.enums c.pop.new.self c.in-Some.setting c.self.inside.values c.args.option.value c.args.value true c.in-Some.ensures c.requires c.self.invariant.entries known in
-    second_option c.args.number c.args.self c.pop.new.self c.in-Some.setting c.args.option _ (sym c.self.view_is ∙ c.in-Some.ensures) has
-
-pub returns-then-len-gt-MOST_BITS : goal.returns-then-len-gt-MOST_BITS
-returns-then-len-gt-MOST_BITS c =
+pub returns-then-len-gt-MOST_BITS-clause-enums : goal.returns-then-len-gt-MOST_BITS-clause-enums
+returns-then-len-gt-MOST_BITS-clause-enums c =
     let known = not_true _ (sym c.in_ok-insert.ensures.added ∙ c.if-not-branch.false) in
-    let has = entry_known (λ (o : EnumOption). o.value) (λ (e : EnumSetting). e.options) c.self.inside.enums c.pop.new.self c.in-Some.setting c.self.inside.values c.args.option.value c.args.value false c.in-Some.ensures c.requires c.self.invariant.entries known in
+    let has = entry_known (λ (o : EnumOption). o.value) (λ (e : EnumSetting). e.options) c.args.self.now.enums c.pop.new.self c.in-Some.setting c.args.self.now.values c.args.option.value c.args.value false c.in-Some.ensures c.requires.value c.requires.known.entries known in
     let bits : length c.option.inside.bits ≡ length c.args.option.bits = ap (λ (o : EnumOption). length o.bits) c.option.view_is in
     let many = c.if-len-gt-MOST_BITS.true in
     let counted = c.len.ensures in
     let long : nat_lt most_bits (length c.args.option.bits) ≡ true = grind (arith, nat_tests) in
-    long_option c.args.number c.args.self c.pop.new.self c.in-Some.setting c.args.option _ (sym c.self.view_is ∙ c.in-Some.ensures) has long
+    long_option c.args.number c.args.self.now.enums c.pop.new.self c.in-Some.setting c.args.option _ c.in-Some.ensures has long
 
-pub invariant_of-result : goal.invariant_of-result
-invariant_of-result c =
-    let enums = c.self.inside.enums in
+pub returns-clause-known : goal.returns-clause-known
+returns-clause-known c =
+    let enums = c.args.self.now.enums in
     let front = c.pop.new.self in
     let setting = c.in-Some.setting in
     let option = c.args.option in
@@ -39,16 +33,16 @@ invariant_of-result c =
     ∙ ap (λ (m : EnumSetting). front ++ change m ∷ []) c.setting.view_is in
     let all : c.push-2.new.self ≡ with_option enums (Some option) = new ∙ sym (with_last_pushed change front setting) ∙ ap (λ es. with_option es (Some option)) (sym c.in-Some.ensures) in
     record {
-      names = λ q. c.self.invariant.names q ∙ sym (ap (λ es. has_enum es q.now) all ∙ names_with_last (λ (e : EnumSetting). e.name) change (λ m. refl) enums q.now);
+      names = λ q. c.requires.known.names q ∙ sym (ap (λ es. has_enum es q.now) all ∙ names_with_last (λ (e : EnumSetting). e.name) change (λ m. refl) enums q.now);
       entries = λ q.
-          entries_with_one (λ (o : EnumOption). o.value) (λ (e : EnumSetting). e.options) front setting (change setting) option c.self.inside.values c.insert.new.self c.args.value c.requires refl
-          (λ p. c.self.invariant.entries p ∙ ap (λ es. has_value (last_options es) p.now) c.in-Some.ensures)
+          entries_with_one (λ (o : EnumOption). o.value) (λ (e : EnumSetting). e.options) front setting (change setting) option c.args.self.now.values c.insert.new.self c.args.value c.requires.value refl
+          (λ p. c.requires.known.entries p ∙ ap (λ es. has_value (last_options es) p.now) c.in-Some.ensures)
           c.in_ok-insert.ensures.updates.0 q
           ∙ ap (λ es. has_value (last_options es) q.now) (sym new);
     }
 
-pub returns : goal.returns
-returns c =
+pub returns-clause-enums : goal.returns-clause-enums
+returns-clause-enums c =
     let front = c.pop.new.self in
     let setting = c.in-Some.setting in
     let option = c.args.option in
@@ -58,12 +52,12 @@ returns c =
     let new : c.push-2.new.self ≡ front ++ change setting ∷ [] =
     stored ∙ ap (λ options. front ++ record { name = c.setting.inside.name; default = c.setting.inside.default; options = options } ∷ []) pushed
     ∙ ap (λ (m : EnumSetting). front ++ change m ∷ []) c.setting.view_is in
-    let split : c.args.self ≡ front ++ setting ∷ [] = sym c.self.view_is ∙ c.in-Some.ensures in
-    let all : with_option c.args.self (Some option) ≡ c.push-2.new.self = ap (λ es. with_option es (Some option)) split ∙ with_last_pushed change front setting ∙ sym new in
+    let split : c.args.self.now.enums ≡ front ++ setting ∷ [] = c.in-Some.ensures in
+    let all : with_option c.args.self.now.enums (Some option) ≡ c.push-2.new.self = ap (λ es. with_option es (Some option)) split ∙ with_last_pushed change front setting ∙ sym new in
     let known = not_true _ (sym c.in_ok-insert.ensures.added ∙ c.if-not-branch.false) in
-    let has = entry_known (λ (o : EnumOption). o.value) (λ (e : EnumSetting). e.options) c.self.inside.enums front setting c.self.inside.values option.value c.args.value false c.in-Some.ensures c.requires c.self.invariant.entries known in
+    let has = entry_known (λ (o : EnumOption). o.value) (λ (e : EnumSetting). e.options) c.args.self.now.enums front setting c.args.self.now.values option.value c.args.value false c.in-Some.ensures c.requires.value c.requires.known.entries known in
     let bits : length c.option.inside.bits ≡ length option.bits = ap (λ (o : EnumOption). length o.bits) c.option.view_is in
     let few = c.if-len-gt-MOST_BITS.false in
     let counted = c.len.ensures in
     let short : nat_lt most_bits (length option.bits) ≡ false = grind (arith, nat_tests) in
-    new_option c.args.number c.args.self front setting option (with_option c.args.self (Some option)) split has short ∙ ap (λ (es : List EnumSetting). Ok es) all
+    new_option c.args.number c.args.self.now.enums front setting option (with_option c.args.self.now.enums (Some option)) split has short ∙ ap (λ (es : List EnumSetting). Ok es) all

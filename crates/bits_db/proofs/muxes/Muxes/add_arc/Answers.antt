@@ -7,27 +7,21 @@ use Rattle.grammars.proofs.Lasts.{with_last_pushed}
 use Rattle.bits_db.specs.Known.{last_arcs}
 use Rattle.bits_db.proofs.Names.{not_false, not_true, entry_known, entries_with_one, names_with_last}
 use Rattle.bits_db.proofs.Entries.{second_arc, long_arc, new_arc}
-use Rattle.bits_db.proofs.muxes.Muxes.with_arc.Goals as goal
+use Rattle.bits_db.proofs.muxes.Muxes.add_arc.Goals as goal
 
-pub returns-then-not-branch : goal.returns-then-not-branch
-returns-then-not-branch c =
-    let known = not_false _ (sym c.in_ok-insert.ensures.added ∙ c.if-not-branch.true) in
-    let has = entry_known (λ (a : Arc). a.source) (λ (m : Mux). m.arcs) c.self.inside.muxes c.pop.new.self c.in-Some.mux c.self.inside.sources c.args.arc.source c.args.source true c.in-Some.ensures c.requires c.self.invariant.entries known in
-    second_arc c.args.number c.args.self c.pop.new.self c.in-Some.mux c.args.arc _ (sym c.self.view_is ∙ c.in-Some.ensures) has
-
-pub returns-then-len-gt-MOST_BITS : goal.returns-then-len-gt-MOST_BITS
-returns-then-len-gt-MOST_BITS c =
+pub returns-then-len-gt-MOST_BITS-clause-muxes : goal.returns-then-len-gt-MOST_BITS-clause-muxes
+returns-then-len-gt-MOST_BITS-clause-muxes c =
     let known = not_true _ (sym c.in_ok-insert.ensures.added ∙ c.if-not-branch.false) in
-    let has = entry_known (λ (a : Arc). a.source) (λ (m : Mux). m.arcs) c.self.inside.muxes c.pop.new.self c.in-Some.mux c.self.inside.sources c.args.arc.source c.args.source false c.in-Some.ensures c.requires c.self.invariant.entries known in
+    let has = entry_known (λ (a : Arc). a.source) (λ (m : Mux). m.arcs) c.args.self.now.muxes c.pop.new.self c.in-Some.mux c.args.self.now.sources c.args.arc.source c.args.source false c.in-Some.ensures c.requires.source c.requires.known.entries known in
     let bits : length c.arc.inside.bits ≡ length c.args.arc.bits = ap (λ (a : Arc). length a.bits) c.arc.view_is in
     let many = c.if-len-gt-MOST_BITS.true in
     let counted = c.len.ensures in
     let long : nat_lt most_bits (length c.args.arc.bits) ≡ true = grind (arith, nat_tests) in
-    long_arc c.args.number c.args.self c.pop.new.self c.in-Some.mux c.args.arc _ (sym c.self.view_is ∙ c.in-Some.ensures) has long
+    long_arc c.args.number c.args.self.now.muxes c.pop.new.self c.in-Some.mux c.args.arc _ c.in-Some.ensures has long
 
-pub invariant_of-result : goal.invariant_of-result
-invariant_of-result c =
-    let muxes = c.self.inside.muxes in
+pub returns-clause-known : goal.returns-clause-known
+returns-clause-known c =
+    let muxes = c.args.self.now.muxes in
     let front = c.pop.new.self in
     let mux = c.in-Some.mux in
     let arc = c.args.arc in
@@ -39,16 +33,16 @@ invariant_of-result c =
     ∙ ap (λ (m : Mux). front ++ change m ∷ []) c.mux.view_is in
     let all : c.push-2.new.self ≡ with_arc muxes (Some arc) = new ∙ sym (with_last_pushed change front mux) ∙ ap (λ ms. with_arc ms (Some arc)) (sym c.in-Some.ensures) in
     record {
-      names = λ q. c.self.invariant.names q ∙ sym (ap (λ ms. has_sink ms q.now) all ∙ names_with_last (λ (m : Mux). m.sink) change (λ m. refl) muxes q.now);
+      names = λ q. c.requires.known.names q ∙ sym (ap (λ ms. has_sink ms q.now) all ∙ names_with_last (λ (m : Mux). m.sink) change (λ m. refl) muxes q.now);
       entries = λ q.
-          entries_with_one (λ (a : Arc). a.source) (λ (m : Mux). m.arcs) front mux (change mux) arc c.self.inside.sources c.insert.new.self c.args.source c.requires refl
-          (λ p. c.self.invariant.entries p ∙ ap (λ ms. has_source (last_arcs ms) p.now) c.in-Some.ensures)
+          entries_with_one (λ (a : Arc). a.source) (λ (m : Mux). m.arcs) front mux (change mux) arc c.args.self.now.sources c.insert.new.self c.args.source c.requires.source refl
+          (λ p. c.requires.known.entries p ∙ ap (λ ms. has_source (last_arcs ms) p.now) c.in-Some.ensures)
           c.in_ok-insert.ensures.updates.0 q
           ∙ ap (λ ms. has_source (last_arcs ms) q.now) (sym new);
     }
 
-pub returns : goal.returns
-returns c =
+pub returns-clause-muxes : goal.returns-clause-muxes
+returns-clause-muxes c =
     let front = c.pop.new.self in
     let mux = c.in-Some.mux in
     let arc = c.args.arc in
@@ -58,12 +52,12 @@ returns c =
     let new : c.push-2.new.self ≡ front ++ change mux ∷ [] =
     stored ∙ ap (λ arcs. front ++ record { sink = c.mux.inside.sink; arcs = arcs } ∷ []) pushed
     ∙ ap (λ (m : Mux). front ++ change m ∷ []) c.mux.view_is in
-    let split : c.args.self ≡ front ++ mux ∷ [] = sym c.self.view_is ∙ c.in-Some.ensures in
-    let all : with_arc c.args.self (Some arc) ≡ c.push-2.new.self = ap (λ ms. with_arc ms (Some arc)) split ∙ with_last_pushed change front mux ∙ sym new in
+    let split : c.args.self.now.muxes ≡ front ++ mux ∷ [] = c.in-Some.ensures in
+    let all : with_arc c.args.self.now.muxes (Some arc) ≡ c.push-2.new.self = ap (λ ms. with_arc ms (Some arc)) split ∙ with_last_pushed change front mux ∙ sym new in
     let known = not_true _ (sym c.in_ok-insert.ensures.added ∙ c.if-not-branch.false) in
-    let has = entry_known (λ (a : Arc). a.source) (λ (m : Mux). m.arcs) c.self.inside.muxes front mux c.self.inside.sources arc.source c.args.source false c.in-Some.ensures c.requires c.self.invariant.entries known in
+    let has = entry_known (λ (a : Arc). a.source) (λ (m : Mux). m.arcs) c.args.self.now.muxes front mux c.args.self.now.sources arc.source c.args.source false c.in-Some.ensures c.requires.source c.requires.known.entries known in
     let bits : length c.arc.inside.bits ≡ length arc.bits = ap (λ (a : Arc). length a.bits) c.arc.view_is in
     let few = c.if-len-gt-MOST_BITS.false in
     let counted = c.len.ensures in
     let short : nat_lt most_bits (length arc.bits) ≡ false = grind (arith, nat_tests) in
-    new_arc c.args.number c.args.self front mux arc (with_arc c.args.self (Some arc)) split has short ∙ ap (λ (ms : List Mux). Ok ms) all
+    new_arc c.args.number c.args.self.now.muxes front mux arc (with_arc c.args.self.now.muxes (Some arc)) split has short ∙ ap (λ (ms : List Mux). Ok ms) all

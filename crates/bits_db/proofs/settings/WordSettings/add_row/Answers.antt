@@ -2,16 +2,14 @@ use Rattle.std.proofs.Common.{◌≡◌, ◌∷◌, ◌++◌, [], List, false, O
 use Rattle.std.proofs.lemmas.Bool.Decides.{nat_tests}
 use Rattle.patterns.specs.Bits.{PatternBit}
 use Rattle.records.specs.Database.{WordSetting}
-use Rattle.grammars.specs.BitsDb.{most_bits, has_word}
+use Rattle.grammars.specs.BitsDb.{most_bits}
 use Rattle.grammars.specs.RowByRow.{with_bits}
 use Rattle.grammars.proofs.Lasts.{with_last_pushed}
-use Rattle.bits_db.proofs.Names.{names_with_last}
 use Rattle.bits_db.proofs.Entries.{new_bits}
-use Rattle.bits_db.proofs.settings.WordSettings.with_row.Goals as goal
+use Rattle.bits_db.proofs.settings.WordSettings.add_row.Goals as goal
 
-pub invariant_of-result-2 : goal.invariant_of-result-2
-invariant_of-result-2 c =
-    let settings = c.self.inside.settings in
+pub returns-clause-words : goal.returns-clause-words
+returns-clause-words c =
     let front = c.pop.new.self in
     let setting = c.in-Some-pop.setting in
     let bits = c.in-Some.bits in
@@ -21,25 +19,10 @@ invariant_of-result-2 c =
     let new : c.push-2.new.self ≡ front ++ change setting ∷ [] =
     stored ∙ ap (λ more. front ++ record { name = c.setting.inside.name; bits = more } ∷ []) pushed
     ∙ ap (λ (w : WordSetting). front ++ change w ∷ []) c.setting.view_is in
-    let all : c.push-2.new.self ≡ with_bits settings (Some bits) = new ∙ sym (with_last_pushed change front setting) ∙ ap (λ ws. with_bits ws (Some bits)) (sym c.in-Some-pop.ensures) in
-    λ q. c.self.invariant q ∙ sym (ap (λ ws. has_word ws q.now) all ∙ names_with_last (λ (w : WordSetting). w.name) change (λ w. refl) settings q.now)
-
-pub returns : goal.returns
-returns c =
-    let settings = c.self.inside.settings in
-    let front = c.pop.new.self in
-    let setting = c.in-Some-pop.setting in
-    let bits = c.in-Some.bits in
-    let change : WordSetting → WordSetting = λ w. record { name = w.name; bits = w.bits ++ bits ∷ [] } in
-    let pushed : c.push.new.self ≡ c.setting.inside.bits ++ bits ∷ [] = c.in_ok-push.ensures.ok in
-    let stored : c.push-2.new.self ≡ front ++ record { name = c.setting.inside.name; bits = c.push.new.self } ∷ [] = c.in_ok-push-2.ensures.ok in
-    let new : c.push-2.new.self ≡ front ++ change setting ∷ [] =
-    stored ∙ ap (λ more. front ++ record { name = c.setting.inside.name; bits = more } ∷ []) pushed
-    ∙ ap (λ (w : WordSetting). front ++ change w ∷ []) c.setting.view_is in
-    let all : with_bits c.args.self (Some bits) ≡ c.push-2.new.self =
-    ap (λ ws. with_bits ws (Some bits)) (sym c.self.view_is ∙ c.in-Some-pop.ensures) ∙ with_last_pushed change front setting ∙ sym new in
+    let all : with_bits c.args.self.now.settings (Some bits) ≡ c.push-2.new.self =
+    ap (λ ws. with_bits ws (Some bits)) c.in-Some-pop.ensures ∙ with_last_pushed change front setting ∙ sym new in
     let length_of : length c.bits.inside.bits.items ≡ length bits = ap (λ (b : List PatternBit). length b) c.bits.view_is in
     let few = c.if-len-gt-MOST_BITS.false in
     let counted = c.len.ensures in
     let short : nat_lt most_bits (length bits) ≡ false = grind (arith, nat_tests) in
-    new_bits c.args.number c.args.self _ bits (sym c.in-Some.is ∙ c.in_ok-bits.ensures) short ∙ ap (λ (ws : List WordSetting). Ok ws) all
+    new_bits c.args.number c.args.self.now.settings _ bits (sym c.in-Some.is ∙ c.in_ok-bits.ensures) short ∙ ap (λ (ws : List WordSetting). Ok ws) all
