@@ -4,18 +4,12 @@ use Rattle.words.specs.OrMemory.{OrMemory}
 use Rattle.records.specs.Database.{Arc, Mux, WordSetting, EnumOption, EnumSetting}
 use Rattle.patterns.specs.Bits.{PatternBit}
 use Rattle.records.specs.Limits.{PatternBits}
-use Rattle.grammars.specs.BitsDb.{DbFault, BadLine, TooLarge, has_source, has_value, last_of, most_bits, arc_fault, bits_fault, option_fault, entry_fault, unless_fault, some_if}
+use Rattle.grammars.specs.BitsDb.{DbFault, TooLarge, has_source, has_value, last_of, most_bits, arc_fault, bits_fault, option_fault, entry_fault, unless_fault, some_if}
 use Rattle.grammars.specs.RowByRow.{with_bits}
 use Rattle.grammars.proofs.Lasts.{last_pushed}
 
 arc_at : (number : ℕ) (muxes front : List Mux) (mux : Mux) (arc : Arc) → muxes ≡ front ++ mux ∷ [] → arc_fault number (Some arc) (last_of muxes) ≡ entry_fault number (has_source mux.arcs arc.source) arc.bits
 arc_at number muxes front mux arc split = ap (arc_fault number (Some arc)) (ap last_of split ∙ last_pushed front mux)
-
--- a second arc of a source is a bad line
-pub second_arc : (number : ℕ) (muxes front : List Mux) (mux : Mux) (arc : Arc) (next : List Mux) → muxes ≡ front ++ mux ∷ [] → has_source mux.arcs arc.source ≡ true
-    → unless_fault (arc_fault number (Some arc) (last_of muxes)) next ≡ Err (BadLine number)
-second_arc number muxes front mux arc next split has =
-    ap (λ f. unless_fault f next) (arc_at number muxes front mux arc split ∙ ap (λ b. entry_fault number b arc.bits) has)
 
 -- a pattern of more bits is too large
 pub long_arc : (number : ℕ) (muxes front : List Mux) (mux : Mux) (arc : Arc) (next : List Mux) → muxes ≡ front ++ mux ∷ [] → has_source mux.arcs arc.source ≡ false
@@ -31,12 +25,6 @@ new_arc number muxes front mux arc next split has long =
 
 option_at : (number : ℕ) (enums front : List EnumSetting) (enum : EnumSetting) (option : EnumOption) → enums ≡ front ++ enum ∷ [] → option_fault number (Some option) (last_of enums) ≡ entry_fault number (has_value enum.options option.value) option.bits
 option_at number enums front enum option split = ap (option_fault number (Some option)) (ap last_of split ∙ last_pushed front enum)
-
--- a second option of a value is a bad line
-pub second_option : (number : ℕ) (enums front : List EnumSetting) (enum : EnumSetting) (option : EnumOption) (next : List EnumSetting) → enums ≡ front ++ enum ∷ [] → has_value enum.options option.value ≡ true
-    → unless_fault (option_fault number (Some option) (last_of enums)) next ≡ Err (BadLine number)
-second_option number enums front enum option next split has =
-    ap (λ f. unless_fault f next) (option_at number enums front enum option split ∙ ap (λ b. entry_fault number b option.bits) has)
 
 pub long_option : (number : ℕ) (enums front : List EnumSetting) (enum : EnumSetting) (option : EnumOption) (next : List EnumSetting) → enums ≡ front ++ enum ∷ [] → has_value enum.options option.value ≡ false
     → nat_lt most_bits (length option.bits) ≡ true → unless_fault (option_fault number (Some option) (last_of enums)) next ≡ Err (TooLarge PatternBits)

@@ -1,5 +1,5 @@
 -- Rows that are read into a part of a reader.
-use Rattle.std.proofs.Common.{◌≡◌, ℕ, List, Option, Some, Result, refl, subst, sym}
+use Rattle.std.proofs.Common.{◌≡◌, ℕ, List, Option, Some, Result, subst, sym}
 use Rattle.words.specs.OrMemory.{OrMemory}
 use Rattle.records.specs.Database.{WordSetting, TileDb}
 use Rattle.grammars.specs.BitsDb.{Reading, Kind, OfWord, bits_of, bits_fault, row_fault, unless_fault}

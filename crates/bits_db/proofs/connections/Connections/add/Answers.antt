@@ -1,6 +1,5 @@
 use Rattle.std.proofs.Common.{◌≡◌, ◌∷◌, ◌++◌, [], List, ℕ, sym, ap, ◌∙◌}
 use Rattle.records.specs.Database.{Fixed}
-use Rattle.grammars.specs.RowByRow.{with_connection}
 use Rattle.bits_db.specs.declared.connections.Ends.{Ends}
 use Rattle.bits_db.proofs.Names.{not_false, not_true}
 use Rattle.bits_db.proofs.Ends.{connection_of, known_connection, new_connection}

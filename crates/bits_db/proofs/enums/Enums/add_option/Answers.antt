@@ -5,8 +5,8 @@ use Rattle.grammars.specs.BitsDb.{most_bits, has_enum, has_value}
 use Rattle.grammars.specs.RowByRow.{with_option}
 use Rattle.grammars.proofs.Lasts.{with_last_pushed}
 use Rattle.bits_db.specs.Known.{last_options}
-use Rattle.bits_db.proofs.Names.{not_false, not_true, entry_known, entries_with_one, names_with_last}
-use Rattle.bits_db.proofs.Entries.{second_option, long_option, new_option}
+use Rattle.bits_db.proofs.Names.{not_true, entry_known, entries_with_one, names_with_last}
+use Rattle.bits_db.proofs.Entries.{long_option, new_option}
 use Rattle.bits_db.proofs.enums.Enums.add_option.Goals as goal
 
 pub returns-then-len-gt-MOST_BITS-clause-enums : goal.returns-then-len-gt-MOST_BITS-clause-enums

@@ -5,8 +5,8 @@ use Rattle.grammars.specs.BitsDb.{most_bits, has_sink, has_source}
 use Rattle.grammars.specs.RowByRow.{with_arc}
 use Rattle.grammars.proofs.Lasts.{with_last_pushed}
 use Rattle.bits_db.specs.Known.{last_arcs}
-use Rattle.bits_db.proofs.Names.{not_false, not_true, entry_known, entries_with_one, names_with_last}
-use Rattle.bits_db.proofs.Entries.{second_arc, long_arc, new_arc}
+use Rattle.bits_db.proofs.Names.{not_true, entry_known, entries_with_one, names_with_last}
+use Rattle.bits_db.proofs.Entries.{long_arc, new_arc}
 use Rattle.bits_db.proofs.muxes.Muxes.add_arc.Goals as goal
 
 pub returns-then-len-gt-MOST_BITS-clause-muxes : goal.returns-then-len-gt-MOST_BITS-clause-muxes

@@ -1,6 +1,6 @@
-use Rattle.std.proofs.Common.{◌≡◌, ◌∙◌, Option, Some, ap}
+use Rattle.std.proofs.Common.{◌≡◌, ◌∙◌, Some, ap}
 use Rattle.std.specs.Prelude.{option_map}
-use Rattle.grammars.specs.BitsDb.{Kind, OfWord}
+use Rattle.grammars.specs.BitsDb.{OfWord}
 use Rattle.bits_db.specs.declared.reader.Kind.TheVariants.{Word}
 use Rattle.bits_db.specs.Kinds.{kind_view}
 use Rattle.bits_db.proofs.Rows.{word_row}
