@@ -1,0 +1,4 @@
+pub mod Twins
+pub mod Alike
+pub mod Masking
+pub mod Triplicated
