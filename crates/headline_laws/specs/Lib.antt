@@ -1,1 +1,3 @@
 pub mod Modelled
+pub mod Sound
+pub mod Kept
