@@ -6,3 +6,6 @@ pub mod Formed
 pub mod Named
 pub mod Paths
 pub mod Attempts
+pub mod Starts
+pub mod Moves
+pub mod Runs

@@ -2,9 +2,11 @@
 //! is written hardens what was read. There is no code but laws, each the contract of a function with an empty body.
 #![tactic(auto)]
 
-ghost use Rattle.attempts.specs.Attempts.{Attempt};
+ghost use Rattle.attempts.specs.Attempts.{after_step, Attempt, Ended, Event, IsAnswer, Routed};
+ghost use Rattle.attempts.specs.Candidates.{IsCandidate, Step};
 ghost use Rattle.attempts.specs.Jobs.{Job, State};
-ghost use Rattle.attempts.specs.Turns.{Complete};
+ghost use Rattle.attempts.specs.Starts.{IsStart};
+ghost use Rattle.attempts.specs.Turns.{Complete, Cut};
 ghost use Rattle.circuit.specs.Circuits.{Circuit};
 ghost use Rattle.circuit.specs.Designs.{SameDesign};
 ghost use Rattle.circuit.specs.Triplicated.{IsTriplicated};
@@ -13,7 +15,9 @@ ghost use Rattle.headline_laws.specs.Kept.{HasEachConnection, KeepsDesign, State
 ghost use Rattle.headline_laws.specs.Modelled.{FeedsAreModelled};
 ghost use Rattle.headline_laws.specs.Sound.{IsSoundJob};
 ghost use Rattle.links.specs.Links.{IsClean};
-ghost use Rattle.repair.specs.Layouts.{Layout};
+ghost use Rattle.repair.specs.Layouts.{configured, Layout};
+ghost use Rattle.std.specs.Prelude.{List, ℕ};
+ghost use Rattle.upset.specs.Safe.{IsSafe};
 
 /// Of two circuits of one design whose pins named cells alone feed, both are triplicated where one is.
 pub fn triplicated_goes_along()
@@ -25,4 +29,21 @@ pub fn triplicated_goes_along()
 pub fn attempt_keeps()
     ensures { (job : Job) → IsSoundJob job → (state : State) → StateKeeps job state → (z : Layout) → Attempt job state (Complete z)
         → KeepsDesign job z × HasEachConnection job z }
+{}
+
+/// The start of a sound job keeps the design, where it is safe.
+pub fn start_keeps()
+    ensures { (job : Job) → IsSoundJob job → (state : State) → IsStart job state → IsSafe (configured state.layout) → StateKeeps job state }
+{}
+
+/// A candidate step keeps the design again.
+pub fn step_keeps()
+    ensures { (job : Job) → IsSoundJob job → (state : State) → StateKeeps job state → (step : Step) → IsCandidate job state step → (cut : Cut)
+        → StateKeeps job (after_step state step cut) }
+{}
+
+/// What a router writes in the end keeps the design and has each of its connections.
+pub fn answer_keeps()
+    ensures { (job : Job) → IsSoundJob job → (log : List Event) (y : Layout) (n : ℕ) → IsAnswer job (Ended log (Routed y n))
+        → KeepsDesign job y × HasEachConnection job y }
 {}
