@@ -9,3 +9,4 @@ pub mod Attempts
 pub mod Starts
 pub mod Moves
 pub mod Runs
+pub mod Hardened

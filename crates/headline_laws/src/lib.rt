@@ -11,6 +11,7 @@ ghost use Rattle.circuit.specs.Circuits.{Circuit};
 ghost use Rattle.circuit.specs.Designs.{SameDesign};
 ghost use Rattle.circuit.specs.Triplicated.{IsTriplicated};
 ghost use Rattle.circuit.specs.WellFormed.{IsWellFormed};
+ghost use Rattle.design_answers.specs.Headline.{Hardens};
 ghost use Rattle.headline_laws.specs.Kept.{HasEachConnection, KeepsDesign, StateKeeps};
 ghost use Rattle.headline_laws.specs.Modelled.{FeedsAreModelled};
 ghost use Rattle.headline_laws.specs.Sound.{IsSoundJob};
@@ -46,4 +47,13 @@ pub fn step_keeps()
 pub fn answer_keeps()
     ensures { (job : Job) → IsSoundJob job → (log : List Event) (y : Layout) (n : ℕ) → IsAnswer job (Ended log (Routed y n))
         → KeepsDesign job y × HasEachConnection job y }
+{}
+
+/// The main law. Where the attempts of a router end with all connections routed, what is written hardens what was read:
+/// the side files are the same but for sites, both give the same outputs from every common start on every input, and
+/// after the flip of any one routing-mux bit there is one domain outside which all outputs are kept, so that at least two
+/// of each three are.
+pub fn hardened_design_keeps_outputs()
+    ensures { (job : Job) → IsSoundJob job → (log : List Event) (y : Layout) (n : ℕ) → IsAnswer job (Ended log (Routed y n))
+        → Hardens (configured job.design) (configured y) }
 {}

@@ -1,0 +1,69 @@
+-- What a router writes hardens what was read.
+use Rattle.std.proofs.Common.{◌≡◌, ℕ, List}
+use Rattle.records.specs.Side.{Domain}
+use Rattle.links.specs.Links.{IsClean}
+use Rattle.circuit.specs.Circuits.{Circuit, Connection}
+use Rattle.circuit.specs.Designs.{SameDesign}
+use Rattle.circuit.specs.Faults.{Fault, WithinOneDomain}
+use Rattle.circuit.specs.Right.{KeepsOutside, KeepsTwo}
+use Rattle.circuit.specs.Triplicated.{IsTriplicated}
+use Rattle.circuit_laws.proofs.Sound.{Sound}
+use Rattle.circuit_laws.proofs.OneDesign.{shown_same}
+use Rattle.circuit_laws.proofs.Keeps.{kept_outside, kept_two}
+use Rattle.upset.specs.Configured.{Configured, circuit_of}
+use Rattle.upset.specs.Safe.{only, IsMuxFault}
+use Rattle.upset_laws.proofs.Masked.{one_domain}
+use Rattle.repair.specs.Layouts.{Layout, configured}
+use Rattle.attempts.specs.Jobs.{Job, read_of}
+use Rattle.attempts.specs.Attempts.{Event, Routed, IsAnswer, Ended}
+use Rattle.design_answers.specs.Headline.{GivesOutputsOf, KeepsOutputsOf, Hardens}
+use Rattle.formed_laws.proofs.SideRead.{read_apart}
+use Rattle.formed_laws.proofs.ProfileRead.{read_fit}
+use Rattle.headline_laws.specs.Sound.{IsSoundJob}
+use Rattle.headline_laws.specs.Kept.{KeepsDesign, HasEachConnection}
+use Rattle.headline_laws.proofs.Alike.{Alike}
+use Rattle.headline_laws.proofs.Triplicated.{triplicated}
+use Rattle.headline_laws.proofs.Formed.{well_formed}
+use Rattle.headline_laws.proofs.Runs.{answer_keeps}
+
+module _ (job : Job) (sound : IsSoundJob job) (y : Layout) (k : KeepsDesign job y) (each : HasEachConnection job y) where
+  abbrev written : Circuit
+  written = circuit_of (configured y)
+
+  read_sound : Sound (read_of job)
+  read_sound = record {
+    clean = sound.clean;
+    formed = well_formed job.device (configured job.design) (read_apart job.design.side sound.read.side) (read_fit job.device.profile sound.read.profile) sound.read.graph sound.read.outputs sound.read.cells;
+  }
+
+  written_sound : Sound written
+  written_sound = record { clean = k.ready.clean; formed = k.formed }
+
+  -- the circuit is one of the design, and triplicated too
+  same : SameDesign (read_of job) written
+  same = record { sides = k.side; parts = k.parts; connections = λ x. (each x, k.none_new x) }
+
+  alike : Alike (read_of job) written
+  alike = record { sound = read_sound; also = written_sound; modelled = sound.modelled; also_modelled = k.modelled; same = same }
+
+  also_triplicated : IsTriplicated written
+  also_triplicated = triplicated alike sound.triplicated
+
+  -- a flip of a routing-mux bit of a safe image has one domain at most
+  within : (f : Fault) → IsMuxFault (configured y) f → WithinOneDomain written f
+  within f m = (one_domain (configured y) (only m.bit) f m.effect).0 (k.safe m.bit m.is_mux_bit)
+
+  gives : GivesOutputsOf (read_of job) written
+  gives start input n v w rv rw t lt p i = shown_same (read_of job) written read_sound written_sound sound.triplicated also_triplicated same start input n v w rv rw t lt p i
+
+  masked : KeepsOutputsOf (read_of job) (configured y)
+  masked f m = (
+    kept_outside (read_of job) written read_sound written_sound sound.triplicated also_triplicated same f (within f m),
+    kept_two (read_of job) written read_sound written_sound sound.triplicated also_triplicated same f (within f m),
+  )
+
+  pub kept_hardens : Hardens (configured job.design) (configured y)
+  kept_hardens = record { side = k.side; outputs = gives; masked = masked }
+
+pub hardened_design_keeps_outputs : (job : Job) → IsSoundJob job → (log : List Event) (y : Layout) (n : ℕ) → IsAnswer job (Ended log (Routed y n)) → Hardens (configured job.design) (configured y)
+hardened_design_keeps_outputs job sound log y n a = (let r = answer_keeps job sound log y n a in kept_hardens job sound y r.0 r.1)
