@@ -4,6 +4,7 @@ pub mod Masking
 pub mod Triplicated
 pub mod Formed
 pub mod Named
+pub mod SameCells
 pub mod Paths
 pub mod Attempts
 pub mod Starts

@@ -225,6 +225,7 @@ module _ (job : Job) (sound : IsSoundJob job) (state : State) (keeps : StateKeep
     side = subst (SameSide job.design.side) (sym c.moved.side) (same_side move job.design.side state.layout.side keeps.design.side);
     apart = apart;
     parts = keeps.design.parts ∙ sym c.alike;
+    cells = made;
     formed = well_formed job.device there apart fit is_graph no_overlap made;
     ready = ready job.device there apart fit is_graph no_overlap made c.clean;
     safe = c.safe;

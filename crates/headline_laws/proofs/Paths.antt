@@ -16,8 +16,9 @@ use Rattle.repair.specs.Layouts.{Layout, configured, with_path, turn_over, NetPa
 use Rattle.repair_laws.specs.Kept.{IsBelowOne}
 use Rattle.repair_laws.proofs.Numbers.{numbered}
 use Rattle.repair_laws.proofs.Path.{Sound, Grows, path_grows, path_feeds}
+use Rattle.layout_laws.specs.PathsKept.{PathsKept}
 use Rattle.layout_laws.proofs.TextPath.{Lined, lined}
-use Rattle.layout_laws.proofs.Many.{ready_after, safe_after, agree_after}
+use Rattle.layout_laws.proofs.Many.{paths_kept, ready_after, safe_after, agree_after}
 use Rattle.attempts.specs.Jobs.{Job, read_of}
 use Rattle.attempts.specs.Wires.{source_named, pin_wire}
 use Rattle.headline_laws.specs.Modelled.{FeedsAreModelled}
@@ -25,6 +26,7 @@ use Rattle.headline_laws.specs.Sound.{IsSoundJob}
 use Rattle.headline_laws.specs.Kept.{KeepsDesign}
 use Rattle.headline_laws.proofs.Twins.{same_connection, twin_pin}
 use Rattle.headline_laws.proofs.Formed.{formed_over}
+use Rattle.headline_laws.proofs.SameCells.{cells_same}
 use Rattle.headline_laws.proofs.Named.{source_found, pin_found}
 
 -- the arcs of a path are usable
@@ -90,6 +92,10 @@ module _ (job : Job) (sound : IsSoundJob job) (y : Layout) (k : KeepsDesign job 
         record { source = r.source; pin = r.pin; connects = r.connects; from = r.from ∙ ap (λ z. z.part) (sym one) ∙ c.from; to = r.to ∙ c.to })
   ]
 
+  -- settings read the same
+  added : PathsKept y (net_path ∷ [])
+  added = (paths_kept job.device sound.names read y k.ready k.safe k.agree (net_path ∷ []) ok).kept
+
   -- the design is kept
   pub path_keeps : KeepsDesign job there
   path_keeps = record {
@@ -97,6 +103,7 @@ module _ (job : Job) (sound : IsSoundJob job) (y : Layout) (k : KeepsDesign job 
     side = k.side;
     apart = k.apart;
     parts = k.parts;
+    cells = cells_same y.graph job.device.profile (configured there).image (configured y).image added.words added.enums y.side ∙ k.cells;
     formed = formed_over (configured y) (configured there).image k.formed;
     ready = ready_after job.device sound.names read y k.ready k.safe k.agree net_path [] ok;
     safe = safe_after job.device sound.names read y k.ready k.safe k.agree net_path [] ok;

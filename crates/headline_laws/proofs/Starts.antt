@@ -21,6 +21,7 @@ use Rattle.attempts.specs.Starts.{IsStart}
 use Rattle.attempt_laws.proofs.Starts.{same_layout}
 use Rattle.headline_laws.specs.Sound.{IsSoundJob}
 use Rattle.headline_laws.specs.Kept.{KeepsDesign, StateKeeps}
+use Rattle.headline_laws.proofs.SameCells.{cells_same}
 use Rattle.headline_laws.proofs.Formed.{formed_over, ready_over, well_formed, ready}
 
 -- ---- lines of ripped nets, by a list of these nets
@@ -83,6 +84,7 @@ module _ (job : Job) (sound : IsSoundJob job) where
       side = record { slices = refl; pads = refl; triples = refl; inputs = refl; outputs = refl; clocks = refl; voters = refl };
       apart = read_apart job.design.side sound.read.side;
       parts = refl;
+      cells = cells_same job.design.graph job.device.profile (configured (with_text config)).image design.image kept.words kept.enums job.design.side ∙ sound.read.cells;
       formed = formed_over design (configured (with_text config)).image (well_formed job.device design (read_apart job.design.side sound.read.side) (read_fit job.device.profile sound.read.profile) sound.read.graph sound.read.outputs sound.read.cells);
       ready = ready_over design (configured (with_text config)).image job.device (ready job.device design (read_apart job.design.side sound.read.side) (read_fit job.device.profile sound.read.profile) sound.read.graph sound.read.outputs sound.read.cells sound.clean) kept.clean;
       safe = safe;
