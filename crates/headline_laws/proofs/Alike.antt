@@ -8,14 +8,14 @@ use Rattle.circuit.specs.Cells.{PadCell}
 use Rattle.circuit.specs.Parts.{Pad, PartRef, Source, sources, output_pads}
 use Rattle.circuit.specs.Pins.{PinRef, Pin, pad_pin, pins}
 use Rattle.circuit.specs.Triples.{is_entry, all_triples, PartTriple, triple_with, triple_of, LiesIn}
-use Rattle.circuit.specs.Circuits.{Circuit, Connects, IsRead, Connection, IsConnection, Reads}
+use Rattle.circuit.specs.Circuits.{Circuit, Connects, Connection}
 use Rattle.circuit.specs.Domains.{HasDomain}
 use Rattle.circuit.specs.Triplicated.{ReadPart, IsVoter}
 use Rattle.circuit.specs.Designs.{SameSide, SameDesign}
 use Rattle.circuit_laws.proofs.Parts.{pad_lies, of_output_pads, pad_pin_listed}
 use Rattle.circuit_laws.proofs.Refs.{part_same, pin_same}
 use Rattle.circuit_laws.proofs.Domains.{cell_domain}
-use Rattle.circuit_laws.proofs.Sound.{Sound, FeedsFrom, at_pin, has_domain}
+use Rattle.circuit_laws.proofs.Sound.{Sound, at_pin, has_domain}
 use Rattle.circuit_laws.proofs.Shapes.{source_shape, twin_source, twin_pad}
 use Rattle.headline_laws.specs.Modelled.{FeedsAreModelled}
 use Rattle.headline_laws.proofs.Twins.{twin_pin, lies_along}
@@ -109,8 +109,14 @@ module _ {c e : Circuit} (al : Alike c e) where
       record { listed = j; read = (q.0, subst (λ z. Connects e z q.0) same b.1.0) }
 
   pub voter_cross : (s u : PartRef) → u ≡ s → IsVoter c s → IsVoter e u
-  voter_cross s u h v = (v.0, (ap (λ z. z.part) h ∙ v.1.0, subst (λ vs. In vs (record { slice = u.cell; table = v.0 })) al.same.sides.voters
-      (subst (λ n. In c.side.voters (record { slice = n; table = v.0 })) (ap (λ z. z.cell) (sym h)) v.1.1)))
+  voter_cross s u h v = (
+    v.0,
+    (
+      ap (λ z. z.part) h ∙ v.1.0,
+      subst (λ vs. In vs (record { slice = u.cell; table = v.0 })) al.same.sides.voters
+          (subst (λ n. In c.side.voters (record { slice = n; table = v.0 })) (ap (λ z. z.cell) (sym h)) v.1.1),
+    ),
+  )
 
   pub lies_cross : (t : Triple) (name : List ℕ) (d : Domain) → LiesIn c.cells name d → LiesIn e.cells name d
   lies_cross t name d i = lies_along c.cells e.cells al.same.parts name d i
@@ -120,9 +126,19 @@ module _ {c e : Circuit} (al : Alike c e) where
   twin_out p i =
       let q = twin_pad c.cells e.cells al.same.parts p i in
       let there : LiesIn e.cells p.name p.domain = lies_along c.cells e.cells al.same.parts p.name p.domain (pad_lies c.cells p (of_output_pads c.cells p i)) in
-      let here : LiesIn e.cells p.name q.0.domain = subst (λ n. LiesIn e.cells n q.0.domain) q.1.1 (pad_lies e.cells q.0 (of_output_pads e.cells q.0 q.1.0)) in
-      (q.0, (q.1.0, (q.1.1, (cell_domain e.cells al.also.formed.names p.name q.0.domain p.domain here there,
-      ap (λ z. let r : PinRef = record { part = record { cell = z; part = Pad }; pin = 0 } in r) q.1.1))))
+      let here : LiesIn e.cells p.name q.0.domain = subst (λ n. LiesIn e.cells n q.0.domain) q.1.1 (pad_lies e.cells q.0 (of_output_pads e.cells q.0 q.1.0)) in (
+        q.0,
+        (
+          q.1.0,
+          (
+            q.1.1,
+            (
+              cell_domain e.cells al.also.formed.names p.name q.0.domain p.domain here there,
+              ap (λ z. let r : PinRef = record { part = record { cell = z; part = Pad }; pin = 0 } in r) q.1.1,
+            ),
+          ),
+        ),
+      )
 
   -- the pins of output pads of one name
   pub pad_fed : (p q : PadCell) → In (output_pads c.cells) p → In (output_pads e.cells) q → (pad_pin q).ref ≡ (pad_pin p).ref → Fed c.routing p.wire → Fed e.routing q.wire

@@ -1,12 +1,12 @@
 -- An attempt that is complete keeps the design and makes each connection; one that is blocked has the connections of
 -- its order before and behind the block.
-use Rattle.std.proofs.Common.{◌≡◌, ℕ, ◌⊎◌, inl, inr, List, [], ◌∷◌, ◌++◌, Some, refl, sym, ap, subst, ◌∙◌, arith}
+use Rattle.std.proofs.Common.{◌≡◌, ℕ, inl, inr, List, [], ◌∷◌, ◌++◌, Some, refl, sym, ap, subst, arith}
 use Rattle.words.specs.Members.{In}
 use Rattle.fabric.specs.Graph.{GraphArc}
 use Rattle.circuit.specs.Parts.{Source}
 use Rattle.circuit.specs.Circuits.{Circuit, Connection, IsConnection}
 use Rattle.upset.specs.Configured.{circuit_of}
-use Rattle.repair.specs.Routes.{wire_weight, roads_for, InTree, IsTheRoute, IsBlocked}
+use Rattle.repair.specs.Routes.{wire_weight, roads_for, InTree, IsTheRoute}
 use Rattle.repair.specs.Layouts.{Layout, configured, with_path, turn_over}
 use Rattle.paths.specs.Paths.{HasNoSinkTwice}
 use Rattle.path_laws.proofs.Leading.{once}

@@ -1,16 +1,13 @@
 -- What a router writes hardens what was read.
-use Rattle.std.proofs.Common.{◌≡◌, ℕ, List}
-use Rattle.records.specs.Side.{Domain}
-use Rattle.links.specs.Links.{IsClean}
-use Rattle.circuit.specs.Circuits.{Circuit, Connection}
+use Rattle.std.proofs.Common.{ℕ, List}
+use Rattle.circuit.specs.Circuits.{Circuit}
 use Rattle.circuit.specs.Designs.{SameDesign}
 use Rattle.circuit.specs.Faults.{Fault, WithinOneDomain}
-use Rattle.circuit.specs.Right.{KeepsOutside, KeepsTwo}
 use Rattle.circuit.specs.Triplicated.{IsTriplicated}
 use Rattle.circuit_laws.proofs.Sound.{Sound}
 use Rattle.circuit_laws.proofs.OneDesign.{shown_same}
 use Rattle.circuit_laws.proofs.Keeps.{kept_outside, kept_two}
-use Rattle.upset.specs.Configured.{Configured, circuit_of}
+use Rattle.upset.specs.Configured.{circuit_of}
 use Rattle.upset.specs.Safe.{only, IsMuxFault}
 use Rattle.upset_laws.proofs.Masked.{one_domain}
 use Rattle.repair.specs.Layouts.{Layout, configured}

@@ -1,21 +1,20 @@
 -- Outputs of tables of one name in two circuits of one design, for the same bits at the pins of the same names.
-use Rattle.std.proofs.Common.{◌≡◌, ◌≢◌, ℕ, suc, Bool, false, List, [], ◌∷◌, length, map, ◌⊎◌, inl, inr, refl, sym, ap, subst, ◌∙◌, arith}
+use Rattle.std.proofs.Common.{◌≡◌, ℕ, suc, Bool, false, List, [], ◌∷◌, length, map, ◌⊎◌, inl, inr, refl, sym, ap, ◌∙◌, arith}
 use Rattle.words.specs.Members.{In}
 use Rattle.records.specs.Side.{Domain}
 use Rattle.circuit.specs.Cells.{TableCell}
 use Rattle.circuit.specs.Parts.{PartRef, Kind, OfTable, OfRegister, OfInput, OfClock, Source, numbered, sources}
 use Rattle.circuit.specs.Pins.{PinRef, Pin, pin_at, table_pins, pins}
-use Rattle.circuit.specs.Triples.{PartTriple, triple_of}
-use Rattle.circuit.specs.Circuits.{Circuit, Connects}
+use Rattle.circuit.specs.Triples.{PartTriple}
+use Rattle.circuit.specs.Circuits.{Circuit}
 use Rattle.circuit.specs.Worlds.{word_bit, table_output}
-use Rattle.circuit.specs.Domains.{HasDomain}
-use Rattle.circuit.specs.Tables.{Assigned, SameBut, Masks, TablesAlike}
+use Rattle.circuit.specs.Tables.{Assigned, SameBut, Masks}
 use Rattle.circuit.specs.Designs.{table_shape}
 use Rattle.links.proofs.Members.{any_of}
 use Rattle.circuit_laws.proofs.Parts.{bit_pin_listed, table_bit}
 use Rattle.circuit_laws.proofs.Refs.{pin_same}
 use Rattle.circuit_laws.proofs.Words.{same_output, same_refs}
-use Rattle.circuit_laws.proofs.Shapes.{kind_shape, source_shape}
+use Rattle.circuit_laws.proofs.Shapes.{kind_shape}
 use Rattle.headline_laws.proofs.Twins.{same_pin_ref}
 use Rattle.headline_laws.proofs.Alike.{Alike, turned, cross, domain_cross, group_same}
 

@@ -1,40 +1,34 @@
 -- A candidate step keeps the design: the slice moves to a site where no cell stands.
-use Rattle.std.proofs.Common.{◌≡◌, ℕ, Bool, true, false, inl, inr, List, [], ◌∷◌, ◌++◌, map, ◌⊎◌, Some, refl, sym, ap, ap₂, subst, ◌∙◌}
-use Rattle.std.specs.Prelude.{Ok, slice_get, if◌then◌else◌}
+use Rattle.std.proofs.Common.{◌≡◌, ℕ, Bool, true, false, inl, inr, List, [], ◌∷◌, ◌++◌, map, ◌⊎◌, refl, sym, ap, ap₂, subst, ◌∙◌}
+use Rattle.std.specs.Prelude.{Ok, if◌then◌else◌}
 use Rattle.std.specs.Str.{bytes_eq}
 use Rattle.std.proofs.lemmas.List.{map-append}
-use Rattle.std.proofs.lemmas.Option.{same_Some}
 use Rattle.words.specs.Members.{In}
 use Rattle.records.specs.Grid.{Tile}
 use Rattle.records.specs.Profile.{SliceKind, PadKind}
-use Rattle.records.specs.Side.{Domain, D0, Placed, Triple, Side}
-use Rattle.fabric.specs.Device.{Device}
+use Rattle.records.specs.Side.{Domain, D0, Placed, Side}
 use Rattle.fabric.specs.Graph.{Graph}
-use Rattle.fabric.specs.Image.{tile_named}
-use Rattle.circuit.specs.Circuits.{Connection, IsConnection}
 use Rattle.circuit.specs.Triples.{Member}
 use Rattle.circuit.specs.Designs.{placed_members, SameSide}
-use Rattle.cells.specs.Sites.{Site, site_at, slice_kind, pad_kind, pad_site}
 use Rattle.cells.specs.CellsOf.{cells_of}
-use Rattle.upset.specs.Configured.{Configured, circuit_of}
-use Rattle.repair.specs.Layouts.{Layout, configured}
-use Rattle.attempts.specs.Jobs.{Job, State, read_of}
+use Rattle.upset.specs.Configured.{Configured}
+use Rattle.repair.specs.Layouts.{configured}
+use Rattle.attempts.specs.Jobs.{Job, State}
 use Rattle.attempts.specs.Moves.{Move, placed_anew, moved_side}
-use Rattle.attempts.specs.Candidates.{Step, site_named, IsMoved, IsCandidate}
+use Rattle.attempts.specs.Candidates.{Step, IsCandidate}
 use Rattle.attempts.specs.Turns.{Cut}
 use Rattle.attempts.specs.Attempts.{after_step}
 use Rattle.links.proofs.Members.{in_left, in_right, in_either, in_map, of_map}
 use Rattle.cells_laws.proofs.Sites.{site_stands}
 use Rattle.cells_laws.proofs.Faults.{cells_accepted}
 use Rattle.json_forms.specs.KindRules.{slice_name, pad_name}
-use Rattle.side_form.specs.Side.{pad_triples}
 use Rattle.fabric.specs.GraphOf.{IsGraph}
 use Rattle.std.proofs.lemmas.Slice.Eq.{bytes_eq-Decides}
 use Rattle.fabric_laws.proofs.Numbered.{get_in}
 use Rattle.layout_laws.specs.Named.{NoTwo}
 use Rattle.formed_laws.specs.Designs.{NoOverlap}
 use Rattle.formed_laws.specs.Twice.{HasNoneTwice}
-use Rattle.formed_laws.specs.SideRead.{site_of, placed_cells, Lists, EntriesAre, IsPaired, IsApart}
+use Rattle.formed_laws.specs.SideRead.{site_of, placed_cells, Lists, IsPaired, IsApart}
 use Rattle.formed_laws.specs.ProfileRead.{IsFit}
 use Rattle.formed_laws.proofs.ProfileRead.{read_fit}
 use Rattle.formed_laws.proofs.Twice.{left_part, right_part, joined_twice, not_both}
@@ -188,7 +182,7 @@ module _ (job : Job) (sound : IsSoundJob job) (state : State) (keeps : StateKeep
       let names : q.0.tile.name ≡ c.new.tile.name = a.tile_name ∙ tile ∙ sym b.tile_name in
       let once = subst (λ grid. NoTwo (λ (t : Tile) (u : Tile). t.name ≡ u.name) grid.tiles) (sym keeps.design.ready.graph.grid) sound.names.tiles in
       let same : q.0.tile ≡ c.new.tile = once_one (λ (t : Tile) (u : Tile). t.name ≡ u.name) g.grid.tiles once q.0.tile c.new.tile
-          (get_in g.grid.tiles q.0.number q.0.tile a.in_grid) (get_in g.grid.tiles c.new.number c.new.tile b.in_grid) names (sym names) in
+      (get_in g.grid.tiles q.0.number q.0.tile a.in_grid) (get_in g.grid.tiles c.new.number c.new.tile b.in_grid) names (sym names) in
       let types : q.0.kind.tile ≡ c.new.kind.tile = a.of_type ∙ ap (λ (t : Tile). t.kind) same ∙ sym b.of_type in
       let kinds : q.0.kind.name ≡ c.new.kind.name = a.kind_name ∙ kind ∙ sym b.kind_name in
       not_both (map slice_name profile.slices) (map pad_name profile.pads) fit.kinds (slice_name c.new.kind)

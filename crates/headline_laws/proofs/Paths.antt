@@ -1,17 +1,16 @@
 -- One path keeps the design, and makes its connection.
-use Rattle.std.proofs.Common.{◌≡◌, ℕ, ◌⊎◌, ◌↔◌, inl, inr, List, [], ◌∷◌, Some, refl, sym, ap, subst, ◌∙◌}
+use Rattle.std.proofs.Common.{◌≡◌, ℕ, ◌⊎◌, inl, inr, List, [], ◌∷◌, refl, sym, ap, subst, ◌∙◌}
 use Rattle.words.specs.Members.{In}
-use Rattle.links.specs.Links.{Below, Feeds}
+use Rattle.links.specs.Links.{Feeds}
 use Rattle.fabric.specs.Graph.{GraphArc}
 use Rattle.circuit.specs.Parts.{Source, sources}
-use Rattle.circuit.specs.Pins.{Pin, pins}
-use Rattle.circuit.specs.Circuits.{Circuit, Connects, Connection, IsConnection}
+use Rattle.circuit.specs.Circuits.{Circuit, Connection, IsConnection}
 use Rattle.upset.specs.Configured.{circuit_of}
-use Rattle.paths.specs.Paths.{IsPath, LeadsOn, HasNoSinkTwice}
+use Rattle.paths.specs.Paths.{LeadsOn, HasNoSinkTwice}
 use Rattle.repair.specs.Added.{with_image, added_all}
 use Rattle.repair.specs.Turns.{Turn, routing}
 use Rattle.repair.specs.Usable.{IsUsable}
-use Rattle.repair.specs.Routes.{roads_for, IsRoute, IsTheRoute}
+use Rattle.repair.specs.Routes.{roads_for, IsRoute}
 use Rattle.repair.specs.Layouts.{Layout, configured, with_path, turn_over, NetPath, ArePaths}
 use Rattle.repair_laws.specs.Kept.{IsBelowOne}
 use Rattle.repair_laws.proofs.Numbers.{numbered}
@@ -20,14 +19,14 @@ use Rattle.layout_laws.specs.PathsKept.{PathsKept}
 use Rattle.layout_laws.proofs.TextPath.{Lined, lined}
 use Rattle.layout_laws.proofs.Many.{paths_kept, ready_after, safe_after, agree_after}
 use Rattle.attempts.specs.Jobs.{Job, read_of}
-use Rattle.attempts.specs.Wires.{source_named, pin_wire}
+use Rattle.attempts.specs.Wires.{pin_wire}
 use Rattle.headline_laws.specs.Modelled.{FeedsAreModelled}
 use Rattle.headline_laws.specs.Sound.{IsSoundJob}
 use Rattle.headline_laws.specs.Kept.{KeepsDesign}
-use Rattle.headline_laws.proofs.Twins.{same_connection, twin_pin}
+use Rattle.headline_laws.proofs.Twins.{twin_pin}
 use Rattle.headline_laws.proofs.Formed.{formed_over}
 use Rattle.headline_laws.proofs.SameCells.{cells_same}
-use Rattle.headline_laws.proofs.Named.{source_found, pin_found}
+use Rattle.headline_laws.proofs.Named.{pin_found}
 
 -- the arcs of a path are usable
 lead_usable : (t : Turn) (w : ℕ) (path : List GraphArc) (pin : ℕ) → LeadsOn (roads_for t) w path pin → (b : GraphArc) → In path b → IsUsable t b

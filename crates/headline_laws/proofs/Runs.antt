@@ -1,11 +1,11 @@
 -- From a state that keeps the design on, what is routed in the end keeps it.
-use Rattle.std.proofs.Common.{◌≡◌, ℕ, inl, inr, List, [], ◌∷◌, ◌++◌, sym, subst}
+use Rattle.std.proofs.Common.{ℕ, inl, inr, List, ◌∷◌, ◌++◌, subst}
 use Rattle.words.specs.Members.{In}
 use Rattle.circuit.specs.Circuits.{Connection}
 use Rattle.repair.specs.Layouts.{Layout}
 use Rattle.attempts.specs.Jobs.{Job, State}
 use Rattle.attempts.specs.Turns.{Cut, Blocked}
-use Rattle.attempts.specs.Attempts.{Event, Ending, Routed, NoRoute, Attempt, with_first, Runs, completes, enough, comes_first, at_pad, no_site, moves, IsAnswer, standing, ended, Ended}
+use Rattle.attempts.specs.Attempts.{Event, Ending, Routed, NoRoute, Attempt, with_first, Runs, completes, enough, comes_first, at_pad, no_site, moves, IsAnswer, ended, Ended}
 use Rattle.links.proofs.Members.{in_left, in_right, in_either}
 use Rattle.headline_laws.specs.Sound.{IsSoundJob}
 use Rattle.headline_laws.specs.Kept.{KeepsDesign, HasEachConnection, StateKeeps}

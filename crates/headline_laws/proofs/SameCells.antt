@@ -1,20 +1,20 @@
 -- Images in which words and enums read the same have the same cells.
-use Rattle.std.proofs.Common.{◌≡◌, ℕ, Bool, false, List, [], ◌++◌, map, flat_map, length, Option, Some, None, option_map, refl, ap}
-use Rattle.std.specs.Prelude.{Result, filter_map, unwrap_or, slice_get, ◌==◌, ◌^◌, if◌then◌else◌}
+use Rattle.std.proofs.Common.{◌≡◌, ℕ, false, List, [], ◌++◌, map, flat_map, length, Some, None, option_map}
+use Rattle.std.specs.Prelude.{filter_map, unwrap_or, slice_get, ◌==◌, ◌^◌, if◌then◌else◌}
 use Rattle.std.specs.Option.{option_and_then, option_map_or, is_some, option_to_list}
 use Rattle.std.specs.Str.{bytes_eq}
 use Rattle.words.specs.Firsts.{or_else, first_fault}
 use Rattle.patterns.specs.Bits.{Bits}
-use Rattle.records.specs.Profile.{Take, Choice, Require, TableKind, RegisterKind, SliceKind, PadKind, Profile}
+use Rattle.records.specs.Profile.{Choice, Require, TableKind, RegisterKind, SliceKind, PadKind, Profile}
 use Rattle.records.specs.Side.{Placed, Side}
 use Rattle.fabric.specs.Graph.{Graph}
 use Rattle.fabric.specs.Values.{word_at, value_at}
-use Rattle.circuit.specs.Cells.{TableCell, Input, InputZero, RegisterCell, SliceCell, Cells}
+use Rattle.circuit.specs.Cells.{InputZero}
 use Rattle.cells.specs.Sites.{Site, slice_site, pad_site, unnamed_pads}
 use Rattle.cells.specs.Takes.{choice_value, case_with, taken, wire_at, input_of, is_one, suits, takes_out}
 use Rattle.cells.specs.Resolved.{word_of, table_cell, input_at, register_cell, site_bits, slice_cell, role_of}
-use Rattle.cells.specs.Readings.{Reading, require_reading, digits_of, table_reading, choice_reading, choices_of, register_readings, slice_readings, pad_reading, slices_of, pads_of, readings}
-use Rattle.cells.specs.Faults.{CellFault, UnnamedPad, site_fault, shape_fault, value_fault, unnamed_fault, cell_fault}
+use Rattle.cells.specs.Readings.{require_reading, digits_of, table_reading, choice_reading, choices_of, slice_readings, pad_reading, slices_of, pads_of, readings}
+use Rattle.cells.specs.Faults.{UnnamedPad, site_fault, shape_fault, value_fault, unnamed_fault, cell_fault}
 use Rattle.cells.specs.CellsOf.{slice_cells, pad_cells, unless, cells_of}
 
 module _ (g : Graph) (profile : Profile) (one other : Bits) (words : (n : ℕ) (name : List ℕ) → word_at g one n name ≡ word_at g other n name)

@@ -1,8 +1,7 @@
 -- The start keeps the design: its text is the design's without the routes of ripped nets.
-use Rattle.std.proofs.Common.{◌≡◌, ℕ, inl, inr, List, [], ◌∷◌, ◌++◌, refl, sym, ap, subst, ◌∙◌}
+use Rattle.std.proofs.Common.{◌≡◌, ℕ, inl, inr, List, [], ◌∷◌, ◌++◌, refl, sym, subst, ◌∙◌}
 use Rattle.words.specs.Members.{In}
 use Rattle.records.specs.Config.{ArcLine, TileText, Config}
-use Rattle.links.specs.Links.{Feeds}
 use Rattle.circuit.specs.Circuits.{Connection, IsConnection}
 use Rattle.upset.specs.Configured.{Configured, circuit_of}
 use Rattle.upset.specs.Safe.{IsSafe}
@@ -16,7 +15,7 @@ use Rattle.layout_laws.proofs.Rest.{ripped_rest}
 use Rattle.links.proofs.Members.{in_left, in_right, in_either}
 use Rattle.formed_laws.proofs.SideRead.{read_apart}
 use Rattle.formed_laws.proofs.ProfileRead.{read_fit}
-use Rattle.attempts.specs.Jobs.{Job, State, read_of, IsRippedFirst}
+use Rattle.attempts.specs.Jobs.{Job, State, read_of}
 use Rattle.attempts.specs.Starts.{IsStart}
 use Rattle.attempt_laws.proofs.Starts.{same_layout}
 use Rattle.headline_laws.specs.Sound.{IsSoundJob}

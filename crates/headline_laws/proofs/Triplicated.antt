@@ -1,18 +1,18 @@
 -- Of two circuits of one design both are triplicated where one is.
-use Rattle.std.proofs.Common.{◌≡◌, ℕ, ◌⊎◌, ◌++◌, inl, inr, refl, sym, ap, subst, ◌∙◌}
+use Rattle.std.proofs.Common.{◌≡◌, ℕ, ◌⊎◌, inl, inr, refl, sym, ap, subst, ◌∙◌}
 use Rattle.words.specs.Members.{In}
 use Rattle.links.specs.Links.{Fed, Reaches, here, onto}
 use Rattle.records.specs.Side.{Domain, D0, D1, D2, Triple}
 use Rattle.circuit.specs.Cells.{TableCell, Input, InputWire, InputNotWire, InputZero, InputOne, RegisterCell, PadCell}
 use Rattle.circuit.specs.Parts.{PartRef, Kind, OfTable, OfRegister, OfInput, OfClock, Source, sources, output_pads}
-use Rattle.circuit.specs.Pins.{PinRef, Pin, pin_at, input_pin, table_pins, data_pins, bit_pins, clock_pins, clock_pins_of, source_pins, pad_pin, pins}
-use Rattle.circuit.specs.Triples.{IsEntry, all_triples, triple_of, LiesIn}
+use Rattle.circuit.specs.Pins.{PinRef, Pin, pin_at, input_pin, data_pins, bit_pins, clock_pins, clock_pins_of, source_pins, pad_pin, pins}
+use Rattle.circuit.specs.Triples.{IsEntry, all_triples, triple_of}
 use Rattle.circuit.specs.Circuits.{Circuit, Connects, Reads}
 use Rattle.circuit.specs.Domains.{HasDomain}
 use Rattle.circuit.specs.Tables.{Ignores, TablesAlike}
 use Rattle.circuit.specs.Registers.{FedAlike, TakesAlike, RegistersAlike}
-use Rattle.circuit.specs.Triplicated.{ReadPart, EntriesInDomain, OpenPinsIgnored, FedByClock, ClocksAreClocks, IsVoter, ReadsOwnDomain, TablesMask, CopiesAlike, HasOutputs, NoTableLoop, IsTriplicated}
-use Rattle.circuit.specs.Designs.{input_shape, register_shape, SameDesign}
+use Rattle.circuit.specs.Triplicated.{ReadPart, EntriesInDomain, OpenPinsIgnored, FedByClock, ClocksAreClocks, IsVoter, ReadsOwnDomain, TablesMask, HasOutputs, NoTableLoop, IsTriplicated}
+use Rattle.circuit.specs.Designs.{input_shape, register_shape}
 use Rattle.links.proofs.Members.{in_either}
 use Rattle.circuit_laws.proofs.Parts.{bit_pin_listed, clock_pin_listed, pad_pin_listed, table_bit, register_bit}
 use Rattle.circuit_laws.proofs.Refs.{part_same}

@@ -1,10 +1,10 @@
 -- Pins and parts of the same names, of cells of one shape.
-use Rattle.std.proofs.Common.{◌≡◌, ◌≢◌, ℕ, suc, Bool, false, inl, inr, List, [], ◌∷◌, ◌++◌, length, map, ◌⊎◌, refl, sym, ap, ap₂, subst, ◌∙◌, arith}
+use Rattle.std.proofs.Common.{◌≡◌, ℕ, suc, inl, inr, List, [], ◌∷◌, ◌++◌, map, refl, sym, ap, ap₂, subst, ◌∙◌}
 use Rattle.std.specs.List.{flat_map}
 use Rattle.std.proofs.lemmas.List.{map-append}
 use Rattle.words.specs.Members.{In}
 use Rattle.records.specs.Side.{Domain}
-use Rattle.circuit.specs.Cells.{TableCell, Input, InputWire, InputNotWire, InputZero, InputOne, RegisterCell, SliceCell, PadCell, Cells}
+use Rattle.circuit.specs.Cells.{Input, InputWire, InputNotWire, InputZero, InputOne, SliceCell, PadCell, Cells}
 use Rattle.circuit.specs.Parts.{Pad, PartRef, Kind, OfTable, OfRegister, OfInput, OfClock, Source, numbered, sources, output_pads}
 use Rattle.circuit.specs.Pins.{PinRef, Pin, pin_at, input_pin, bit_pins_of, clock_pins_of, bit_pins, clock_pins, source_pins, pad_pin, pins}
 use Rattle.circuit.specs.Triples.{Member, members, LiesIn}
@@ -107,8 +107,7 @@ twin_pin a b same p i = elim (in_either (flat_map source_pins (sources a)) (map 
       let q = twin_of_part s.0 u.0 u.1.1 p s.1.1 in
       (q.0, (in_left (flat_map source_pins (sources b)) (map pad_pin (output_pads b)) q.0 (in_flat_map source_pins (sources b) u.0 q.0 u.1.0 q.1.0), q.1.1)))
   | inr j ↦ (let s = of_map pad_pin (output_pads a) p j in
-      let u = twin_pad a b same s.0 s.1.0 in
-      (
+      let u = twin_pad a b same s.0 s.1.0 in (
         pad_pin u.0,
         (
           in_right (flat_map source_pins (sources b)) (map pad_pin (output_pads b)) (pad_pin u.0) (in_map pad_pin (output_pads b) u.0 u.1.0),
