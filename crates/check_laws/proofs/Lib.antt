@@ -1,0 +1,13 @@
+pub mod Least
+pub mod Orders
+pub mod Passing
+pub mod Deciding
+pub mod PinRules
+pub mod MaskRules
+pub mod RoutingRules
+pub mod Overlaps
+pub mod CopyRules
+pub mod TableRules
+pub mod Reading
+pub mod Accepted
+pub mod NeverBoth

@@ -1,0 +1,5 @@
+use Rattle.check_laws.proofs.Accepted.{accepted_masked}
+use Rattle.check_laws.proofs.accepted_design_is_masked.Goals as goal
+
+pub returns : goal.returns
+returns c = accepted_masked

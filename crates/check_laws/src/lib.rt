@@ -1,0 +1,47 @@
+//! Laws of the checks of a design: what a design keeps that none of them refuses, and that a design is accepted or has
+//! one first refusal. There is no code but laws, each the contract of a function with an empty body.
+#![tactic(auto)]
+
+ghost use Rattle.answers.specs.Refusals.{Refusal};
+ghost use Rattle.cells.specs.CellsOf.{cells_of};
+ghost use Rattle.check_laws.specs.Accepted.{IsSound};
+ghost use Rattle.circuit.specs.Cells.{Cells};
+ghost use Rattle.circuit.specs.Faults.{Fault};
+ghost use Rattle.circuit.specs.Right.{RightOutside, TwoAreRight};
+ghost use Rattle.commands.specs.Commands.{Inputs};
+ghost use Rattle.design_checks.specs.Checks.{Passes};
+ghost use Rattle.design_checks.specs.DesignChecks.{DesignRefused, IsAccepted, IsFirstRefusal, configured_as};
+ghost use Rattle.design_files.specs.Designs.{Design};
+ghost use Rattle.design_files.specs.Parsed.{Files};
+ghost use Rattle.fabric.specs.Graph.{Graph};
+ghost use Rattle.fabric.specs.GraphOf.{IsGraph};
+ghost use Rattle.fabric.specs.Image.{image_of};
+ghost use Rattle.formed_laws.specs.Readers.{IsReadProfile, IsReadSide};
+ghost use Rattle.records.specs.Side.{Domain};
+ghost use Rattle.std.specs.Prelude.{Ok, ◌≡◌};
+ghost use Rattle.upset.specs.Configured.{circuit_of};
+ghost use Rattle.upset.specs.Safe.{IsMuxFault, IsSafe};
+
+/// An accepted design is read, its routing is clean, its arcs agree, its pins are fed from named cells alone, and its
+/// circuit is triplicated. So is any design that passes the checks, of a profile and a side file that are read.
+pub fn accepted_design_is_sound()
+    ensures accepted { (files : Files) (inputs : Inputs) (design : Design) (g : Graph) (cells : Cells) → IsAccepted files inputs design g cells
+        → IsSound design.device design.config (configured_as design g cells) }
+    ensures passing { (design : Design) (g : Graph) (cells : Cells) → IsReadProfile design.device.profile → IsReadSide design.side → IsGraph design.device g
+        → cells_of g design.device.profile (image_of g design.config) design.side ≡ Ok cells → Passes (DesignRefused design g)
+        → IsSound design.device design.config (configured_as design g cells) }
+{}
+
+/// An accepted design that is safe keeps each output pad outside one domain right after the flip of a routing-mux bit,
+/// so at least two of each three.
+pub fn accepted_design_is_masked()
+    ensures { (files : Files) (inputs : Inputs) (design : Design) (g : Graph) (cells : Cells) → IsAccepted files inputs design g cells
+        → let k = configured_as design g cells in IsSafe k → (f : Fault) → IsMuxFault k f
+        → ((d : Domain) × RightOutside (circuit_of k) f d) × TwoAreRight (circuit_of k) f }
+{}
+
+/// Inputs that are accepted have no refusal.
+pub fn never_both()
+    ensures { (files : Files) (inputs : Inputs) (design : Design) (g : Graph) (cells : Cells) (r : Refusal) → IsAccepted files inputs design g cells
+        → IsFirstRefusal files inputs r → ⊥ }
+{}
