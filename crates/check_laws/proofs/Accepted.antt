@@ -2,14 +2,10 @@
 use Rattle.std.proofs.Common.{◌≡◌, List, [], ◌∷◌, inl, refl}
 use Rattle.std.specs.Prelude.{Ok}
 use Rattle.words.specs.Members.{In}
-use Rattle.patterns.specs.Bits.{Bits}
 use Rattle.records.specs.Side.{Domain, Triple}
-use Rattle.links.specs.Links.{IsClean}
 use Rattle.fabric.specs.Graph.{Graph}
 use Rattle.fabric.specs.GraphOf.{IsGraph}
 use Rattle.fabric.specs.Image.{image_of}
-use Rattle.fabric.specs.Links.{routing_of}
-use Rattle.fabric.specs.Agree.{ArcsAgree}
 use Rattle.circuit.specs.Cells.{Cells}
 use Rattle.circuit.specs.Circuits.{Circuit}
 use Rattle.circuit.specs.Faults.{Fault}
@@ -22,11 +18,7 @@ use Rattle.answers.specs.Refusals.{Refusal, NoOutputs}
 use Rattle.commands.specs.Commands.{Inputs}
 use Rattle.design_files.specs.Parsed.{Files}
 use Rattle.design_files.specs.Designs.{Design}
-use Rattle.design_checks.specs.Checks.{Passes, ◌before◌, Computed}
-use Rattle.design_checks.specs.GraphChecks.{graph_size_refusal, Overlap}
-use Rattle.design_checks.specs.LineChecks.{line_refusal}
-use Rattle.design_checks.specs.RoutingChecks.{ArcsDiffer, AreContested}
-use Rattle.design_checks.specs.CellChecks.{cell_refusal}
+use Rattle.design_checks.specs.Checks.{Passes, ◌before◌}
 use Rattle.design_checks.specs.PinChecks.{SourceUnnamed, TablesLoop, PinsOpen, ClocksAsData, RegistersUnclocked, PinsForeign}
 use Rattle.design_checks.specs.MaskChecks.{TablesFail}
 use Rattle.design_checks.specs.CopyChecks.{CopiesUnlike}
@@ -34,15 +26,15 @@ use Rattle.design_checks.specs.DesignChecks.{OutputsMissing, none, GraphRefused,
 use Rattle.circuit_laws.proofs.Sound.{Sound}
 use Rattle.formed_laws.specs.Readers.{IsReadProfile, IsReadSide}
 use Rattle.formed_laws.specs.Designs.{IsReadDesign}
-use Rattle.formed_laws.proofs.Formed.{well_formed, entries_in_domain, mux_bits_masked_there}
+use Rattle.formed_laws.proofs.Formed.{entries_in_domain, mux_bits_masked_there}
 use Rattle.check_laws.specs.Accepted.{FeedsAreModelled, IsSound}
 use Rattle.check_laws.proofs.Passing.{first_passes, second_passes}
 use Rattle.check_laws.proofs.RoutingRules as routing
-use Rattle.check_laws.proofs.Overlaps.{no_overlap}
 use Rattle.check_laws.proofs.PinRules as pins
 use Rattle.check_laws.proofs.MaskRules as masking
 use Rattle.check_laws.proofs.CopyRules.{outputs_alike, registers_alike}
 use Rattle.check_laws.proofs.TableRules.{tables_alike}
+use Rattle.check_laws.proofs.Texts as texts
 use Rattle.check_laws.proofs.Reading.{design_read}
 
 has_outputs : (c : Circuit) → Passes (OutputsMissing c.side) → HasOutputs c
@@ -60,9 +52,6 @@ module _ (design : Design) (g : Graph) (cells : Cells) (profile : IsReadProfile 
   abbrev c : Circuit
   c = circuit_of k
 
-  abbrev image : Bits
-  image = image_of g design.config
-
   graph_passes : Passes (GraphRefused design g)
   graph_passes = first_passes (GraphRefused design g) (TextRefused design g before CellsRefused design g) passes
 
@@ -79,30 +68,10 @@ module _ (design : Design) (g : Graph) (cells : Cells) (profile : IsReadProfile 
   circuit_passes r h = cells_pass r (in_circuit cells there h)
 
   read : IsReadDesign design.device k
-  read = record {
-    profile = profile;
-    side = side;
-    graph = is;
-    outputs = no_overlap design.device g is (second_passes (Computed (graph_size_refusal g)) (Overlap design.device g) graph_passes);
-    cells = there;
-  }
-
-  -- ---- the text
-
-  behind_lines : Passes (ArcsDiffer g image design.config before AreContested g image before Computed (cell_refusal g design.device.profile image design.side))
-  behind_lines = second_passes (Computed (line_refusal g design.config)) (ArcsDiffer g image design.config before AreContested g image before Computed (cell_refusal g design.device.profile image design.side)) text_passes
-
-  agree : ArcsAgree g image design.config
-  agree = routing.agree design.device g is image design.config (first_passes (ArcsDiffer g image design.config) (AreContested g image before Computed (cell_refusal g design.device.profile image design.side)) behind_lines)
-
-  behind_arcs : Passes (AreContested g image before Computed (cell_refusal g design.device.profile image design.side))
-  behind_arcs = second_passes (ArcsDiffer g image design.config) (AreContested g image before Computed (cell_refusal g design.device.profile image design.side)) behind_lines
-
-  clean : IsClean (routing_of g image)
-  clean = routing.clean design.device g is image (first_passes (AreContested g image) (Computed (cell_refusal g design.device.profile image design.side)) behind_arcs)
+  read = texts.read design g cells profile side is there graph_passes text_passes
 
   ok : Sound c
-  ok = record { clean = clean; formed = well_formed design.device k read }
+  ok = texts.ok design g cells profile side is there graph_passes text_passes
 
   -- ---- the circuit
 
@@ -177,7 +146,7 @@ module _ (design : Design) (g : Graph) (cells : Cells) (profile : IsReadProfile 
   }
 
   pub passing_sound : IsSound design.device design.config k
-  passing_sound = record { read = read; clean = clean; agree = agree; modelled = modelled; triplicated = triplicated }
+  passing_sound = record { read = read; clean = ok.clean; agree = texts.agree design g cells profile side is there graph_passes text_passes; modelled = modelled; triplicated = triplicated }
 
 module _ (files : Files) (inputs : Inputs) (design : Design) (g : Graph) (cells : Cells) (accepted : IsAccepted files inputs design g cells) where
   pub accepted_sound : IsSound design.device design.config (configured_as design g cells)

@@ -9,5 +9,9 @@ pub mod Overlaps
 pub mod CopyRules
 pub mod TableRules
 pub mod Reading
+pub mod Texts
 pub mod Accepted
 pub mod NeverBoth
+pub mod Refused
+pub mod RefusedCopies
+pub mod OneRefusal

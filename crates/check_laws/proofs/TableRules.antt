@@ -125,7 +125,7 @@ module _ (c : Circuit) (ok : Sound c) (modelled : FeedsAreModelled c) (ignored :
           a p m.0 i cn ∙ sym (b p m.0 i cn)
 
   -- what a copy gives is the digit of its output
-  gives_is : (bits : PartTriple → Bool) (s : Source) (t : TableCell) (x : Pin → Bool) → ReadPart c s → s.kind ≡ OfTable t → Assigned c bits s t x
+  pub gives_is : (bits : PartTriple → Bool) (s : Source) (t : TableCell) (x : Pin → Bool) → ReadPart c s → s.kind ≡ OfTable t → Assigned c bits s t x
       → (part : PartRef) (text : List ℕ) → s.part ≡ part → Gives c bits part text → text ≡ digit (table_output s.part t x)
   gives_is bits s t x rs ks asg part _ e (output u v y f ru ku bsg open_zero) =
       of_one u (refs.part_same c.cells ok.formed.names s u rs.listed ru.listed (e ∙ sym f)) v y ku bsg

@@ -45,3 +45,8 @@ pub fn never_both()
     ensures { (files : Files) (inputs : Inputs) (design : Design) (g : Graph) (cells : Cells) (r : Refusal) → IsAccepted files inputs design g cells
         → IsFirstRefusal files inputs r → ⊥ }
 {}
+
+/// Inputs have one first refusal at most.
+pub fn one_first_refusal()
+    ensures { (files : Files) (inputs : Inputs) (r s : Refusal) → IsFirstRefusal files inputs r → IsFirstRefusal files inputs s → r ≡ s }
+{}
