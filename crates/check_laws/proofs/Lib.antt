@@ -15,3 +15,4 @@ pub mod NeverBoth
 pub mod Refused
 pub mod RefusedCopies
 pub mod OneRefusal
+pub mod Converse

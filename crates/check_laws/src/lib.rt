@@ -11,6 +11,8 @@ ghost use Rattle.circuit.specs.Right.{RightOutside, TwoAreRight};
 ghost use Rattle.commands.specs.Commands.{Inputs};
 ghost use Rattle.design_checks.specs.Checks.{Passes};
 ghost use Rattle.design_checks.specs.DesignChecks.{DesignRefused, IsAccepted, IsFirstRefusal, configured_as};
+ghost use Rattle.design_checks.specs.GraphChecks.{graph_size_refusal};
+ghost use Rattle.design_checks.specs.LineChecks.{line_refusal};
 ghost use Rattle.design_files.specs.Designs.{Design};
 ghost use Rattle.design_files.specs.Parsed.{Files};
 ghost use Rattle.fabric.specs.Graph.{Graph};
@@ -18,7 +20,7 @@ ghost use Rattle.fabric.specs.GraphOf.{IsGraph};
 ghost use Rattle.fabric.specs.Image.{image_of};
 ghost use Rattle.formed_laws.specs.Readers.{IsReadProfile, IsReadSide};
 ghost use Rattle.records.specs.Side.{Domain};
-ghost use Rattle.std.specs.Prelude.{Ok, ◌≡◌};
+ghost use Rattle.std.specs.Prelude.{None, Ok, ◌≡◌};
 ghost use Rattle.upset.specs.Configured.{circuit_of};
 ghost use Rattle.upset.specs.Safe.{IsMuxFault, IsSafe};
 
@@ -49,4 +51,10 @@ pub fn never_both()
 /// Inputs have one first refusal at most.
 pub fn one_first_refusal()
     ensures { (files : Files) (inputs : Inputs) (r s : Refusal) → IsFirstRefusal files inputs r → IsFirstRefusal files inputs s → r ≡ s }
+{}
+
+/// A sound design passes all checks, where its graph is within its limits and each line names what is there.
+pub fn sound_design_passes()
+    ensures { (design : Design) (g : Graph) (cells : Cells) → IsSound design.device design.config (configured_as design g cells) → graph_size_refusal g ≡ None
+        → line_refusal g design.config ≡ None → Passes (DesignRefused design g) }
 {}
