@@ -4,3 +4,6 @@ pub mod LineFeed
 pub mod ReadBack
 pub mod SideForms
 pub mod SidePrinted
+pub mod TextLines
+pub mod Sayings
+pub mod Said

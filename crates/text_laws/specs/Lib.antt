@@ -1,1 +1,2 @@
 pub mod DatabaseRead
+pub mod Printed

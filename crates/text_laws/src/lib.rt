@@ -2,6 +2,7 @@
 //! code but laws, each the contract of a function with an empty body.
 #![tactic(auto)]
 
+ghost use Rattle.config_grammar.specs.ConfigLines.{is_return, says, words_in, ConfigLine, OutsideLine};
 ghost use Rattle.fabric.specs.Device.{Device};
 ghost use Rattle.formed_laws.specs.Readers.{IsReadSide};
 ghost use Rattle.layout_laws.specs.Named.{NamesOnce};
@@ -9,8 +10,12 @@ ghost use Rattle.records.specs.Database.{TileDb};
 ghost use Rattle.records.specs.Side.{Side};
 ghost use Rattle.side_form.specs.Side.{side_of};
 ghost use Rattle.side_form.specs.SidePrint.{side_text};
-ghost use Rattle.std.specs.Prelude.{Ok, ◌≡◌};
+ghost use Rattle.std.specs.Prelude.{false, map, true, List, Ok, Some, ℕ, ◌≡◌};
+ghost use Rattle.std.specs.List.{list_any};
 ghost use Rattle.text_laws.specs.DatabaseRead.{HasNamesOnce, HasReadFiles, IsReadDatabase};
+ghost use Rattle.text_laws.specs.Printed.{lined, printed_line, AreOneLine};
+ghost use Rattle.texts.specs.Lines.{lines_of, Line};
+ghost use Rattle.texts.specs.Parts.{no_line_feed};
 
 /// In a database that is read nothing is named twice, and so it is in a device whose grid and databases are read.
 pub fn read_database_has_names_once()
@@ -21,4 +26,19 @@ pub fn read_database_has_names_once()
 /// A side file that is read, printed and read again is the same.
 pub fn printed_side_is_read()
     ensures { (side : Side) → IsReadSide side → side_of (side_text side) ≡ Ok side }
+{}
+
+/// Texts that are printed with a line feed behind each are the lines of what is printed.
+pub fn printed_lines_are_lines()
+    ensures { (texts : List (List ℕ)) → AreOneLine texts → map (λ line. line.text) (lines_of (lined texts)) ≡ texts }
+{}
+
+/// A line that says something says the same when it is printed, and is one line then.
+pub fn printed_line_says_it()
+    ensures same { (line other : Line) (said : ConfigLine) → no_line_feed line.text ≡ true
+        → says line.text (words_in line) ≡ Some said → (said ≡ OutsideLine → ⊥)
+        → other.text ≡ printed_line said → says other.text (words_in other) ≡ Some said }
+    ensures one_line { (line : Line) (said : ConfigLine) → no_line_feed line.text ≡ true
+        → says line.text (words_in line) ≡ Some said → (said ≡ OutsideLine → ⊥)
+        → (no_line_feed (printed_line said) ≡ true) × (list_any is_return (printed_line said) ≡ false) }
 {}
