@@ -1,4 +1,3 @@
 pub mod Tests
 pub mod TwoTiles
 pub mod RippedSlice
-pub mod Anywhere

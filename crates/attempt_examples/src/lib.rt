@@ -15,7 +15,6 @@ ghost use Rattle.mini.specs.MiniA.{mini_a};
 ghost use Rattle.mini.specs.Toggle.{toggle, toggle_side};
 ghost use Rattle.repair.specs.Layouts.{configured};
 ghost use Rattle.repair_laws.specs.Ready.{IsReady};
-ghost use Rattle.routed_laws.specs.Sound.{IsReadyAnywhere, IsSound, SlicesApart};
 ghost use Rattle.std.specs.Prelude.{codes, None, Some, [], ◌∷◌, ◌≡◌};
 
 /// The toggle is safe, so one attempt is complete and leaves it as it is.
@@ -46,14 +45,4 @@ pub fn slice_has_a_first_candidate()
 /// Where all nets but clocks are ripped, the two connections of the slice get their paths back in one attempt.
 pub fn ripped_slice_is_routed_again()
     ensures { IsAnswer ripped_job (Ended (AttemptComplete ∷ []) (Routed design 2)) }
-{}
-
-/// This design and device meet what the law of complete answers asks, so the answer is sound.
-pub fn answer_of_ripped_slice_is_sound()
-    ensures once { NamesOnce two_tiles }
-    ensures ready { IsReady two_tiles (configured design) }
-    ensures agree { ArcsAgree graph (configured design).image design_text }
-    ensures apart { SlicesApart design.side }
-    ensures anywhere { IsReadyAnywhere ripped_job }
-    ensures sound { IsSound two_tiles (read_of ripped_job) design [] }
 {}

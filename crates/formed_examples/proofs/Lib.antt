@@ -1,4 +1,3 @@
 pub mod Texts
 pub mod Databases
 pub mod Read
-pub mod Moves

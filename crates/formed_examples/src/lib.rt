@@ -56,9 +56,3 @@ pub fn toggle_is_read()
     ensures masked { let k = with_toggle (graph_of mini_a) toggle in (f : Fault) → IsMuxFault k f
         → ((d : Domain) × RightOutside (circuit_of k) f d) × TwoAreRight (circuit_of k) f }
 {}
-
-/// Its third slice may move to the free site of the fourth column, and the side file is apart then too.
-pub fn a_slice_moves()
-    ensures there { (s : Site SliceKind) × (site_named (graph_of mini_a) mini_a.profile to_fourth.tile to_fourth.kind ≡ Some s) }
-    ensures apart { IsApart (moved_side to_fourth toggle_side) }
-{}

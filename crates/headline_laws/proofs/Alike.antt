@@ -17,7 +17,7 @@ use Rattle.circuit_laws.proofs.Refs.{part_same, pin_same}
 use Rattle.circuit_laws.proofs.Domains.{cell_domain}
 use Rattle.circuit_laws.proofs.Sound.{Sound, at_pin, has_domain}
 use Rattle.circuit_laws.proofs.Shapes.{source_shape, twin_source, twin_pad}
-use Rattle.headline_laws.specs.Modelled.{FeedsAreModelled}
+use Rattle.check_laws.specs.Accepted.{FeedsAreModelled}
 use Rattle.headline_laws.proofs.Twins.{twin_pin, lies_along}
 
 -- two circuits of one design, each with pins that named cells alone feed

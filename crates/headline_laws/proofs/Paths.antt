@@ -20,7 +20,7 @@ use Rattle.layout_laws.proofs.TextPath.{Lined, lined}
 use Rattle.layout_laws.proofs.Many.{paths_kept, ready_after, safe_after, agree_after}
 use Rattle.attempts.specs.Jobs.{Job, read_of}
 use Rattle.attempts.specs.Wires.{pin_wire}
-use Rattle.headline_laws.specs.Modelled.{FeedsAreModelled}
+use Rattle.check_laws.specs.Accepted.{FeedsAreModelled}
 use Rattle.headline_laws.specs.Sound.{IsSoundJob}
 use Rattle.headline_laws.specs.Kept.{KeepsDesign}
 use Rattle.headline_laws.proofs.Twins.{twin_pin}

@@ -12,7 +12,7 @@ use Rattle.repair.specs.Layouts.{Layout, configured}
 use Rattle.repair_laws.specs.Ready.{IsReady}
 use Rattle.attempts.specs.Jobs.{Job, State, read_of}
 use Rattle.formed_laws.specs.SideRead.{IsApart}
-use Rattle.headline_laws.specs.Modelled.{FeedsAreModelled}
+use Rattle.check_laws.specs.Accepted.{FeedsAreModelled}
 
 -- A layout over the design's graph with the same side file but for sites, and the same cells but for wires, which are
 -- those of its image. It is well formed, ready (so clean), safe and agreeing, each feed of a pin is a modelled output,

@@ -1,3 +1,2 @@
-pub mod Modelled
 pub mod Sound
 pub mod Kept

@@ -7,7 +7,7 @@ use Rattle.repair.specs.Layouts.{configured}
 use Rattle.attempts.specs.Jobs.{Job, read_of}
 use Rattle.layout_laws.specs.Named.{NamesOnce}
 use Rattle.formed_laws.specs.Designs.{IsReadDesign}
-use Rattle.headline_laws.specs.Modelled.{FeedsAreModelled}
+use Rattle.check_laws.specs.Accepted.{FeedsAreModelled}
 
 -- The design is one that is read, on a device that names nothing twice. Its routing is clean and its arcs agree, each
 -- feed of a pin is a modelled output, and its circuit is triplicated.

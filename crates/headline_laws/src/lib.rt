@@ -13,7 +13,7 @@ ghost use Rattle.circuit.specs.Triplicated.{IsTriplicated};
 ghost use Rattle.circuit.specs.WellFormed.{IsWellFormed};
 ghost use Rattle.design_answers.specs.Headline.{Hardens};
 ghost use Rattle.headline_laws.specs.Kept.{HasEachConnection, KeepsDesign, StateKeeps};
-ghost use Rattle.headline_laws.specs.Modelled.{FeedsAreModelled};
+ghost use Rattle.check_laws.specs.Accepted.{FeedsAreModelled};
 ghost use Rattle.headline_laws.specs.Sound.{IsSoundJob};
 ghost use Rattle.links.specs.Links.{IsClean};
 ghost use Rattle.repair.specs.Layouts.{configured, Layout};
