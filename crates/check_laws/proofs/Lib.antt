@@ -16,3 +16,5 @@ pub mod Refused
 pub mod RefusedCopies
 pub mod OneRefusal
 pub mod Converse
+pub mod BadPlaces
+pub mod OneOutcome

@@ -8,7 +8,8 @@ ghost use Rattle.check_laws.specs.Accepted.{IsSound};
 ghost use Rattle.circuit.specs.Cells.{Cells};
 ghost use Rattle.circuit.specs.Faults.{Fault};
 ghost use Rattle.circuit.specs.Right.{RightOutside, TwoAreRight};
-ghost use Rattle.commands.specs.Commands.{Inputs};
+ghost use Rattle.commands.specs.Commands.{Command, Inputs};
+ghost use Rattle.design_answers.specs.Outcomes.{IsOutcome, Outcome};
 ghost use Rattle.design_checks.specs.Checks.{Passes};
 ghost use Rattle.design_checks.specs.DesignChecks.{DesignRefused, IsAccepted, IsFirstRefusal, configured_as};
 ghost use Rattle.design_checks.specs.GraphChecks.{graph_size_refusal};
@@ -57,4 +58,9 @@ pub fn one_first_refusal()
 pub fn sound_design_passes()
     ensures { (design : Design) (g : Graph) (cells : Cells) → IsSound design.device design.config (configured_as design g cells) → graph_size_refusal g ≡ None
         → line_refusal g design.config ≡ None → Passes (DesignRefused design g) }
+{}
+
+/// A command over files has one outcome at most: its status, what it prints and what it writes.
+pub fn one_outcome()
+    ensures { (files : Files) (command : Command) (o p : Outcome) → IsOutcome files command o → IsOutcome files command p → o ≡ p }
 {}
