@@ -7,3 +7,5 @@ pub mod SidePrinted
 pub mod TextLines
 pub mod Sayings
 pub mod Said
+pub mod ConfigRead
+pub mod ConfigPrinted

@@ -1,11 +1,13 @@
 -- Lines of a configuration that are printed. (After Project Trellis.)
-use Rattle.std.specs.Prelude.{◌≡◌, ℕ, Bool, false, List, [], ◌∷◌, ◌++◌, map, flat_map, codes, true}
+use Rattle.std.specs.Prelude.{◌≡◌, ℕ, Bool, false, List, [], ◌∷◌, ◌++◌, map, flat_map, codes, true, Ok}
 use Rattle.std.specs.List.{list_any}
 use Rattle.std.specs.Fmt.{decimal}
 use Rattle.words.specs.Members.{In}
 use Rattle.texts.specs.Parts.{no_line_feed}
 use Rattle.config_grammar.specs.ConfigLines.{ConfigLine, DeviceLine, HeadLine, TileLine, ArcOf, WordOf, EnumOf, UnknownOf, OutsideLine, is_return}
 use Rattle.config_grammar.specs.ConfigPrint.{digits_text}
+use Rattle.config_grammar.specs.ConfigText.{configuration_of}
+use Rattle.records.specs.Config.{TileText, Config}
 
 -- texts, each with a line feed behind it
 abbrev pub lined : List (List ℕ) → List ℕ
@@ -29,3 +31,22 @@ printed_line (WordOf name bits) = spaced (codes "word:") (name ∷ digits_text b
 printed_line (EnumOf name value) = spaced (codes "enum:") (name ∷ value ∷ [])
 printed_line (UnknownOf frame bit) = spaced (codes "unknown:") ((codes "F" ++ decimal frame ++ codes "B" ++ decimal bit) ∷ [])
 printed_line OutsideLine = []
+
+-- what the lines of a section say
+abbrev pub said_in : TileText → List ConfigLine
+said_in t =
+    map (λ a. ArcOf a.sink a.source) t.arcs ++ map (λ w. WordOf w.name w.bits) t.words ++ map (λ e. EnumOf e.name e.value) t.enums
+    ++ map (λ u. UnknownOf u.frame u.bit) t.unknowns
+
+-- what a section says: its tile's line and its lines, or nothing where it has no lines
+abbrev pub section_says : List ℕ → List ConfigLine → List ConfigLine
+section_says name [] = []
+section_says name (line ∷ lines) = TileLine name ∷ line ∷ lines
+
+-- what a configuration says, line by line
+abbrev pub said_by : Config → List ConfigLine
+said_by c = DeviceLine c.device ∷ (map (λ h. HeadLine h.text) c.heads ++ flat_map (λ t. section_says t.tile (said_in t)) c.tiles)
+
+-- some bytes are read as this configuration
+abbrev pub IsReadConfig : Config → Type 0
+IsReadConfig c = (bytes : List ℕ) × (configuration_of bytes ≡ Ok c)

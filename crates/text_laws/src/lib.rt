@@ -3,9 +3,12 @@
 #![tactic(auto)]
 
 ghost use Rattle.config_grammar.specs.ConfigLines.{is_return, says, words_in, ConfigLine, OutsideLine};
+ghost use Rattle.config_grammar.specs.ConfigPrint.{config_text};
+ghost use Rattle.config_grammar.specs.ConfigText.{items_of};
 ghost use Rattle.fabric.specs.Device.{Device};
 ghost use Rattle.formed_laws.specs.Readers.{IsReadSide};
 ghost use Rattle.layout_laws.specs.Named.{NamesOnce};
+ghost use Rattle.records.specs.Config.{Config};
 ghost use Rattle.records.specs.Database.{TileDb};
 ghost use Rattle.records.specs.Side.{Side};
 ghost use Rattle.side_form.specs.Side.{side_of};
@@ -13,7 +16,7 @@ ghost use Rattle.side_form.specs.SidePrint.{side_text};
 ghost use Rattle.std.specs.Prelude.{false, map, true, List, Ok, Some, ℕ, ◌≡◌};
 ghost use Rattle.std.specs.List.{list_any};
 ghost use Rattle.text_laws.specs.DatabaseRead.{HasNamesOnce, HasReadFiles, IsReadDatabase};
-ghost use Rattle.text_laws.specs.Printed.{lined, printed_line, AreOneLine};
+ghost use Rattle.text_laws.specs.Printed.{lined, printed_line, said_by, AreOneLine, IsReadConfig};
 ghost use Rattle.texts.specs.Lines.{lines_of, Line};
 ghost use Rattle.texts.specs.Parts.{no_line_feed};
 
@@ -41,4 +44,9 @@ pub fn printed_line_says_it()
     ensures one_line { (line : Line) (said : ConfigLine) → no_line_feed line.text ≡ true
         → says line.text (words_in line) ≡ Some said → (said ≡ OutsideLine → ⊥)
         → (no_line_feed (printed_line said) ≡ true) × (list_any is_return (printed_line said) ≡ false) }
+{}
+
+/// The text of a configuration that is read has its lines, in order, and nothing else.
+pub fn printed_config_says_it()
+    ensures { (c : Config) → IsReadConfig c → map (λ item. item.says) (items_of (config_text c)) ≡ map (λ said. Some said) (said_by c) }
 {}

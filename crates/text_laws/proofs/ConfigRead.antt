@@ -1,0 +1,227 @@
+-- What a configuration that is read says can be printed.
+use Rattle.std.proofs.Common.{◌≡◌, ◌+◌, ◌-◌, ℕ, Bool, length, min, true, false, not, ◌⊎◌, inl, inr, List, [], ◌∷◌, ◌++◌, map, filter, filter_map, Option, Some, None, refl, sym, ap, subst, ◌∙◌}
+use Rattle.std.specs.Prelude.{Result, Ok, Err}
+use Rattle.std.specs.declared.cmp.Ordering.{Ordering}
+use Rattle.std.specs.declared.cmp.Ordering.TheVariants.{Less, Equal, Greater}
+use Rattle.std.specs.Ordering.{nat_cmp, match_ordering}
+use Rattle.std.specs.Cmp.Lexicographic.{slice_cmp}
+use Rattle.words.specs.Members.{In}
+use Rattle.words.specs.Firsts.{first_fault_after, first_fault}
+use Rattle.records.specs.Config.{Head, ArcLine, WordLine, EnumLine, UnknownLine, TileText, Config}
+use Rattle.texts.specs.Lines.{Line, last_number, lines_of}
+use Rattle.texts.specs.Parts.{no_line_feed, IsTextOf}
+use Rattle.texts.specs.Names.{is_name}
+use Rattle.texts.proofs.LineParts.{lines_make}
+use Rattle.links.proofs.Members.{of_map}
+use Rattle.fabric_laws.proofs.Members.{in_filter_from, in_filter_map_from}
+use Rattle.cells_laws.proofs.Options.{or_none}
+use Rattle.config_grammar.specs.ConfigLines.{ConfigLine, DeviceLine, HeadLine, TileLine, ArcOf, WordOf, EnumOf, UnknownOf, OutsideLine, says, is_skipped, words_in}
+use Rattle.config_grammar.specs.Sections.{Item, no_lines, Behind, behind_with, behind_of, sections_of, head_before, heads_of, device_in}
+use Rattle.config_grammar.specs.Ordered.{put_in_order, put_once, in_order, in_order_once}
+use Rattle.config_grammar.specs.ConfigText.{ConfigFault, item_of, items_of, devices_of, says_fault, item_fault, arc_key, section_in_order, config_of, with_device, unless_fault, configuration_of}
+use Rattle.text_laws.specs.Printed.{IsReadConfig}
+use Rattle.text_laws.proofs.TextLines.{words_are}
+use Rattle.text_laws.proofs.Sayings.{IsSayable}
+use Rattle.text_laws.proofs.Said.{said_sayable}
+
+-- ---- sections and heads
+
+-- each line of a section can be printed
+pub record LinesSayable (t : TileText) : Type 0 where
+  pub arcs : (a : ArcLine) → In t.arcs a → IsSayable (ArcOf a.sink a.source)
+  pub words : (w : WordLine) → In t.words w → IsSayable (WordOf w.name w.bits)
+  pub enums : (e : EnumLine) → In t.enums e → IsSayable (EnumOf e.name e.value)
+  pub unknowns : (u : UnknownLine) → In t.unknowns u → IsSayable (UnknownOf u.frame u.bit)
+
+pub record IsSayableTile (t : TileText) : Type 0 where
+  pub name : IsSayable (TileLine t.tile)
+  pub lines : LinesSayable t
+
+pub record IsSayableConfig (c : Config) : Type 0 where
+  pub device : IsSayable (DeviceLine c.device)
+  pub heads : (h : Head) → In c.heads h → IsSayable (HeadLine h.text)
+  pub tiles : (t : TileText) → In c.tiles t → IsSayableTile t
+
+record BehindSayable (b : Behind) : Type 0 where
+  inside : LinesSayable b.inside
+  sections : (t : TileText) → In b.sections t → IsSayableTile t
+
+abbrev SaysSayable : Option ConfigLine → Type 0
+SaysSayable None = Unit {0}
+SaysSayable (Some line) = IsSayable line
+
+nothing_sayable : (n : ℕ) (name : List ℕ) → LinesSayable (no_lines n name)
+nothing_sayable n name = record { arcs = λ a i. absurd i; words = λ w i. absurd i; enums = λ e i. absurd i; unknowns = λ u i. absurd i }
+
+-- x in front of others with a property
+with_front : {X : Type 0} (P : X → Type 0) (x : X) (xs : List X) → P x → ((y : X) → In xs y → P y) → (y : X) → In (x ∷ xs) y → P y
+with_front P x xs p h y i = elim i [ inl e ↦ subst P e p | inr j ↦ h y j ]
+
+behind_step : (n : ℕ) (o : Option ConfigLine) (b : Behind) → SaysSayable o → BehindSayable b → BehindSayable (behind_with n o b)
+behind_step n None b k h = h
+behind_step n (Some (DeviceLine name)) b k h = h
+behind_step n (Some (HeadLine text)) b k h = h
+behind_step n (Some (TileLine name)) b k h = record {
+  inside = nothing_sayable 0 [];
+  sections =
+      with_front IsSayableTile (record { tile = name; line = n; arcs = b.inside.arcs; words = b.inside.words; enums = b.inside.enums; unknowns = b.inside.unknowns }) b.sections
+      (record { name = k; lines = record { arcs = h.inside.arcs; words = h.inside.words; enums = h.inside.enums; unknowns = h.inside.unknowns } }) h.sections;
+}
+behind_step n (Some (ArcOf sink source)) b k h = record {
+  inside = record {
+    arcs = with_front (λ (a : ArcLine). IsSayable (ArcOf a.sink a.source)) (record { sink = sink; source = source; line = n }) b.inside.arcs k h.inside.arcs;
+    words = h.inside.words;
+    enums = h.inside.enums;
+    unknowns = h.inside.unknowns;
+  };
+  sections = h.sections;
+}
+behind_step n (Some (WordOf name bits)) b k h = record {
+  inside = record {
+    arcs = h.inside.arcs;
+    words = with_front (λ (w : WordLine). IsSayable (WordOf w.name w.bits)) (record { name = name; bits = bits; line = n }) b.inside.words k h.inside.words;
+    enums = h.inside.enums;
+    unknowns = h.inside.unknowns;
+  };
+  sections = h.sections;
+}
+behind_step n (Some (EnumOf name value)) b k h = record {
+  inside = record {
+    arcs = h.inside.arcs;
+    words = h.inside.words;
+    enums = with_front (λ (e : EnumLine). IsSayable (EnumOf e.name e.value)) (record { name = name; value = value; line = n }) b.inside.enums k h.inside.enums;
+    unknowns = h.inside.unknowns;
+  };
+  sections = h.sections;
+}
+behind_step n (Some (UnknownOf frame bit)) b k h = record {
+  inside = record {
+    arcs = h.inside.arcs;
+    words = h.inside.words;
+    enums = h.inside.enums;
+    unknowns = with_front (λ (u : UnknownLine). IsSayable (UnknownOf u.frame u.bit)) (record { frame = frame; bit = bit; line = n }) b.inside.unknowns k h.inside.unknowns;
+  };
+  sections = h.sections;
+}
+behind_step n (Some OutsideLine) b k h = absurd k
+
+-- each of some items says what can be printed
+abbrev AllSayable : List Item → Type 0
+AllSayable items = (i : Item) → In items i → SaysSayable i.says
+
+behind_sayable : (items : List Item) → AllSayable items → BehindSayable (behind_of items)
+behind_sayable [] h = record { inside = nothing_sayable 0 []; sections = λ t i. absurd i }
+behind_sayable (item ∷ items) h = behind_step item.number item.says (behind_of items) (h item (inl refl)) (behind_sayable items (λ i j. h i (inr j)))
+
+head_step : (o : Option ConfigLine) (heads : List Head) → SaysSayable o → ((h : Head) → In heads h → IsSayable (HeadLine h.text)) → (h : Head) → In (head_before o heads) h → IsSayable (HeadLine h.text)
+head_step None heads k f = f
+head_step (Some (DeviceLine name)) heads k f = f
+head_step (Some (HeadLine text)) heads k f = with_front (λ (h : Head). IsSayable (HeadLine h.text)) (record { text = text }) heads k f
+head_step (Some (TileLine name)) heads k f = f
+head_step (Some (ArcOf sink source)) heads k f = f
+head_step (Some (WordOf name bits)) heads k f = f
+head_step (Some (EnumOf name value)) heads k f = f
+head_step (Some (UnknownOf frame bit)) heads k f = f
+head_step (Some OutsideLine) heads k f = f
+
+heads_sayable : (items : List Item) → AllSayable items → (h : Head) → In (heads_of items) h → IsSayable (HeadLine h.text)
+heads_sayable [] k h i = absurd i
+heads_sayable (item ∷ items) k h i = head_step item.says (heads_of items) (k item (inl refl)) (heads_sayable items (λ j l. k j (inr l))) h i
+
+device_sayable : (o : Option ConfigLine) (d : List ℕ) → SaysSayable o → device_in o ≡ Some d → is_name d ≡ true
+device_sayable None d k h = absurd (let no : ⊥ = cc in no)
+device_sayable (Some (DeviceLine name)) d k h = let same : name ≡ d = cc in subst (λ n. is_name n ≡ true) same k
+device_sayable (Some (HeadLine text)) d k h = absurd (let no : ⊥ = cc in no)
+device_sayable (Some (TileLine name)) d k h = absurd (let no : ⊥ = cc in no)
+device_sayable (Some (ArcOf sink source)) d k h = absurd (let no : ⊥ = cc in no)
+device_sayable (Some (WordOf name bits)) d k h = absurd (let no : ⊥ = cc in no)
+device_sayable (Some (EnumOf name value)) d k h = absurd (let no : ⊥ = cc in no)
+device_sayable (Some (UnknownOf frame bit)) d k h = absurd (let no : ⊥ = cc in no)
+device_sayable (Some OutsideLine) d k h = absurd (let no : ⊥ = cc in no)
+
+-- ---- what is put in order was there
+
+module _ {X : Type 0} (key : X → List ℕ) where
+  put_from : (x : X) (ys : List X) (z : X) → In (put_in_order key x ys) z → (x ≡ z) ⊎ In ys z
+  put_from x [] z i = i
+  put_from x (y ∷ ys) z i = go (slice_cmp nat_cmp (key x) (key y)) i (put_from x ys z)
+    where
+      go : (o : Ordering) → In (match_ordering o (x ∷ y ∷ ys) (x ∷ y ∷ ys) (y ∷ put_in_order key x ys)) z → (In (put_in_order key x ys) z → (x ≡ z) ⊎ In ys z) → (x ≡ z) ⊎ In (y ∷ ys) z
+      go Less j ih = j
+      go Equal j ih = j
+      go Greater j ih = elim j [ inl e ↦ inr (inl e) | inr l ↦ elim (ih l) [ inl e ↦ inl e | inr m ↦ inr (inr m) ] ]
+
+  put_once_from : (x : X) (ys : List X) (z : X) → In (put_once key x ys) z → (x ≡ z) ⊎ In ys z
+  put_once_from x [] z i = i
+  put_once_from x (y ∷ ys) z i = go (slice_cmp nat_cmp (key x) (key y)) i (put_once_from x ys z)
+    where
+      go : (o : Ordering) → In (match_ordering o (x ∷ y ∷ ys) (x ∷ ys) (y ∷ put_once key x ys)) z → (In (put_once key x ys) z → (x ≡ z) ⊎ In ys z) → (x ≡ z) ⊎ In (y ∷ ys) z
+      go Less j ih = j
+      go Equal j ih = elim j [ inl e ↦ inl e | inr l ↦ inr (inr l) ]
+      go Greater j ih = elim j [ inl e ↦ inr (inl e) | inr l ↦ elim (ih l) [ inl e ↦ inl e | inr m ↦ inr (inr m) ] ]
+
+  ordered_from : (xs : List X) (z : X) → In (in_order key xs) z → In xs z
+  ordered_from [] z i = i
+  ordered_from (x ∷ xs) z i = elim (put_from x (in_order key xs) z i) [ inl e ↦ inl e | inr j ↦ inr (ordered_from xs z j) ]
+
+  ordered_once_from : (xs : List X) (z : X) → In (in_order_once key xs) z → In xs z
+  ordered_once_from [] z i = i
+  ordered_once_from (x ∷ xs) z i = elim (put_once_from x (in_order_once key xs) z i) [ inl e ↦ inl e | inr j ↦ inr (ordered_once_from xs z j) ]
+
+section_sayable : (t : TileText) → IsSayableTile t → IsSayableTile (section_in_order t)
+section_sayable t h = record {
+  name = h.name;
+  lines = record { arcs = λ a i. h.lines.arcs a (ordered_once_from arc_key t.arcs a i); words = h.lines.words; enums = h.lines.enums; unknowns = h.lines.unknowns };
+}
+
+-- ---- the items of a text that is read
+
+line_feeds : (number start : ℕ) (lines : List Line) (text : List ℕ) → IsTextOf number start lines text → (line : Line) → In lines line → no_line_feed line.text ≡ true
+line_feeds number start [] text h line i = absurd i
+line_feeds number start (first ∷ lines) text h line i = elim i [
+  | inl e ↦ subst (λ (l : Line). no_line_feed l.text ≡ true) e h.1.one_line
+  | inr j ↦ line_feeds (min (number + 1) last_number) (start + (length text - length h.0)) lines h.0 h.4 line j
+]
+
+says_sayable : (line : Line) (number : ℕ) (before : List Item) → no_line_feed line.text ≡ true → (o : Option ConfigLine) → says line.text (words_in line) ≡ o → says_fault number before o ≡ None → SaysSayable o
+says_sayable line number before feeds None e k = tt
+says_sayable line number before feeds (Some said) e k =
+    said_sayable line.text said feeds (sym (ap (says line.text) (words_are line)) ∙ e)
+    (λ out. (let fault : says_fault number before (Some OutsideLine) ≡ None = subst (λ s. says_fault number before (Some s) ≡ None) out k in let no : ⊥ = cc in no))
+
+none_in : {X E : Type 0} (f : List X → X → Option E) (before xs : List X) → first_fault_after f before xs ≡ None → (x : X) → In xs x → (b : List X) × (f b x ≡ None)
+none_in f before [] h x i = absurd i
+none_in f before (y ∷ ys) h x i =
+    let p = or_none (f before y) (first_fault_after f (before ++ y ∷ []) ys) h in
+    elim i [ inl e ↦ (before, subst (λ z. f before z ≡ None) e p.0) | inr j ↦ none_in f (before ++ y ∷ []) ys p.1 x j ]
+
+items_sayable : (bytes : List ℕ) → first_fault item_fault (items_of bytes) ≡ None → AllSayable (items_of bytes)
+items_sayable bytes h item i =
+    let l = of_map item_of (filter (λ line. not (is_skipped (words_in line))) (lines_of bytes)) item i in
+    let there = (in_filter_from (λ line. not (is_skipped (words_in line))) (lines_of bytes) l.0 l.1.0).0 in
+    let f = none_in item_fault [] (items_of bytes) h item i in
+    let right = subst (λ x. item_fault f.0 x ≡ None) (sym l.1.1) f.1 in
+    subst (λ (x : Item). SaysSayable x.says) l.1.1
+    (says_sayable l.0 l.0.number f.0 (line_feeds 1 0 (lines_of bytes) bytes (lines_make bytes) l.0 there) (says l.0.text (words_in l.0)) refl right)
+
+no_fault : {c : Config} (o : Option ConfigFault) (r : Result Config ConfigFault) → unless_fault o r ≡ Ok c → (o ≡ None) × (r ≡ Ok c)
+no_fault None r h = (refl, h)
+no_fault (Some f) r h = absurd (let no : ⊥ = cc in no)
+
+config_sayable : (items : List Item) (ds : List (List ℕ)) (c : Config) → AllSayable items → ((d : List ℕ) → In ds d → is_name d ≡ true) → with_device items ds ≡ Ok c → IsSayableConfig c
+config_sayable items [] c h k e = absurd (let no : ⊥ = cc in no)
+config_sayable items (d ∷ ds) c h k e =
+    let same : config_of d items ≡ c = cc in
+    let tiles : (t : TileText) → In (config_of d items).tiles t → IsSayableTile t = λ t i.
+        (let m = of_map section_in_order (sections_of items) t (ordered_from (λ t. t.tile) (map section_in_order (sections_of items)) t i) in
+        subst IsSayableTile m.1.1 (section_sayable m.0 ((behind_sayable items h).sections m.0 m.1.0))) in
+    subst IsSayableConfig same (record { device = k d (inl refl); heads = heads_sayable items h; tiles = tiles })
+
+-- a configuration that is read says what can be printed
+pub read_sayable : (c : Config) → IsReadConfig c → IsSayableConfig c
+read_sayable c read =
+    let items = items_of read.0 in
+    let n = no_fault (first_fault item_fault items) (with_device items (devices_of items)) read.1 in
+    let all = items_sayable read.0 n.0 in
+    config_sayable items (devices_of items) c all
+    (λ d i. (let r = in_filter_map_from (λ (item : Item). device_in item.says) items d i in device_sayable r.0.says d (all r.0 r.1) r.2)) n.1
