@@ -1,8 +1,8 @@
 -- The text of a configuration that is read says what the configuration does.
-use Rattle.std.proofs.Common.{◌≡◌, ◌≢◌, ◌<◌, ℕ, Bool, true, false, not, cond, ◌==◌, inl, inr, List, [], ◌∷◌, ◌++◌, length, map, filter, flat_map, Option, Some, None, refl, sym, ap, ap₂, subst, ◌∙◌, arith, append_assoc, length-append}
+use Rattle.std.proofs.Common.{◌≡◌, ◌<◌, ℕ, Bool, true, false, not, cond, ◌==◌, inl, inr, List, [], ◌∷◌, ◌++◌, length, map, filter, flat_map, Option, Some, None, refl, sym, ap, ap₂, subst, ◌∙◌, arith, append_assoc, length-append}
 use Rattle.std.specs.Prelude.{codes}
 use Rattle.std.specs.List.{list_any}
-use Rattle.std.proofs.lemmas.Bool.{false≢true, eqb-true}
+use Rattle.std.proofs.lemmas.Bool.{eqb-true}
 use Rattle.std.proofs.lemmas.List.{map-append}
 use Rattle.std.proofs.lemmas.List.Concat.{flat_map-append}
 use Rattle.words.specs.Members.{In}
@@ -10,10 +10,10 @@ use Rattle.records.specs.Config.{Head, ArcLine, WordLine, EnumLine, UnknownLine,
 use Rattle.texts.specs.Lines.{Line, lines_of}
 use Rattle.texts.specs.Parts.{no_line_feed}
 use Rattle.links.proofs.Members.{in_either, of_map, of_flat_map}
-use Rattle.config_grammar.specs.ConfigLines.{ConfigLine, DeviceLine, HeadLine, TileLine, ArcOf, WordOf, EnumOf, UnknownOf, OutsideLine, without_blanks, says_words, begins_outside, is_return, says, begins_with_hash, is_skipped, words_in}
+use Rattle.config_grammar.specs.ConfigLines.{ConfigLine, DeviceLine, HeadLine, TileLine, ArcOf, WordOf, EnumOf, UnknownOf, OutsideLine, without_blanks, says_words, begins_outside, is_return, says, is_skipped, words_in}
 use Rattle.config_grammar.specs.ConfigPrint.{line_of, arc_text, word_text, enum_text, unknown_text, lines_text, section_with, section_text, head_text, config_text}
 use Rattle.config_grammar.specs.ConfigText.{item_of, items_of}
-use Rattle.text_laws.specs.Printed.{lined, AreOneLine, spaced, printed_line, said_in, section_says, said_by, IsReadConfig}
+use Rattle.text_laws.specs.Printed.{lined, AreOneLine, printed_line, said_in, section_says, said_by, IsReadConfig}
 use Rattle.text_laws.proofs.TextLines.{lines_back, word_texts, words_are}
 use Rattle.text_laws.proofs.Sayings.{says_text, IsSayable, says_printed, printed_bytes}
 use Rattle.text_laws.proofs.ConfigRead.{IsSayableTile, IsSayableConfig, read_sayable}
@@ -243,5 +243,5 @@ printed_says c read =
     let os = config_lines c in
     let sayable = config_sayable c (read_sayable c read) in
     let lines : map (λ l. l.text) (lines_of (config_text c)) ≡ map text_of os =
-        ap (λ t. map (λ (l : Line). l.text) (lines_of t)) (config_is c ∙ texts_lined os) ∙ lines_back (map text_of os) (one_line_each os sayable) in
+    ap (λ t. map (λ (l : Line). l.text) (lines_of t)) (config_is c ∙ texts_lined os) ∙ lines_back (map text_of os) (one_line_each os sayable) in
     items_say os (lines_of (config_text c)) lines sayable ∙ ap (map (λ s. Some s)) (there_config c)

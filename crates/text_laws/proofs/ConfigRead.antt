@@ -1,6 +1,6 @@
 -- What a configuration that is read says can be printed.
-use Rattle.std.proofs.Common.{◌≡◌, ◌+◌, ◌-◌, ℕ, Bool, length, min, true, false, not, ◌⊎◌, inl, inr, List, [], ◌∷◌, ◌++◌, map, filter, filter_map, Option, Some, None, refl, sym, ap, subst, ◌∙◌}
-use Rattle.std.specs.Prelude.{Result, Ok, Err}
+use Rattle.std.proofs.Common.{◌≡◌, ◌+◌, ◌-◌, ℕ, length, min, true, not, ◌⊎◌, inl, inr, List, [], ◌∷◌, ◌++◌, map, filter, Option, Some, None, refl, sym, ap, subst, ◌∙◌}
+use Rattle.std.specs.Prelude.{Result, Ok}
 use Rattle.std.specs.declared.cmp.Ordering.{Ordering}
 use Rattle.std.specs.declared.cmp.Ordering.TheVariants.{Less, Equal, Greater}
 use Rattle.std.specs.Ordering.{nat_cmp, match_ordering}
@@ -18,7 +18,7 @@ use Rattle.cells_laws.proofs.Options.{or_none}
 use Rattle.config_grammar.specs.ConfigLines.{ConfigLine, DeviceLine, HeadLine, TileLine, ArcOf, WordOf, EnumOf, UnknownOf, OutsideLine, says, is_skipped, words_in}
 use Rattle.config_grammar.specs.Sections.{Item, no_lines, Behind, behind_with, behind_of, sections_of, head_before, heads_of, device_in}
 use Rattle.config_grammar.specs.Ordered.{put_in_order, put_once, in_order, in_order_once}
-use Rattle.config_grammar.specs.ConfigText.{ConfigFault, item_of, items_of, devices_of, says_fault, item_fault, arc_key, section_in_order, config_of, with_device, unless_fault, configuration_of}
+use Rattle.config_grammar.specs.ConfigText.{ConfigFault, item_of, items_of, devices_of, says_fault, item_fault, arc_key, section_in_order, config_of, with_device, unless_fault}
 use Rattle.text_laws.specs.Printed.{IsReadConfig}
 use Rattle.text_laws.proofs.TextLines.{words_are}
 use Rattle.text_laws.proofs.Sayings.{IsSayable}
@@ -213,8 +213,8 @@ config_sayable items [] c h k e = absurd (let no : ⊥ = cc in no)
 config_sayable items (d ∷ ds) c h k e =
     let same : config_of d items ≡ c = cc in
     let tiles : (t : TileText) → In (config_of d items).tiles t → IsSayableTile t = λ t i.
-        (let m = of_map section_in_order (sections_of items) t (ordered_from (λ t. t.tile) (map section_in_order (sections_of items)) t i) in
-        subst IsSayableTile m.1.1 (section_sayable m.0 ((behind_sayable items h).sections m.0 m.1.0))) in
+    (let m = of_map section_in_order (sections_of items) t (ordered_from (λ t. t.tile) (map section_in_order (sections_of items)) t i) in
+    subst IsSayableTile m.1.1 (section_sayable m.0 ((behind_sayable items h).sections m.0 m.1.0))) in
     subst IsSayableConfig same (record { device = k d (inl refl); heads = heads_sayable items h; tiles = tiles })
 
 -- a configuration that is read says what can be printed

@@ -8,13 +8,13 @@ use Rattle.words.specs.Members.{In}
 use Rattle.patterns.specs.Bits.{PatternBit}
 use Rattle.texts.specs.Lines.{Line, lines_of}
 use Rattle.records.specs.Database.{Arc, Mux, WordSetting, EnumOption, EnumSetting, Fixed, TileDb}
-use Rattle.grammars.specs.Rows.{Row, has_words}
-use Rattle.grammars.specs.BitsDb.{DbFault, Head, MuxHead, WordHead, EnumHead, FixedHead, head_of, arc_of, bits_of, option_of, same_ends, has_sink, has_source, has_word, has_enum, has_value, bad_line_if, head_fault, last_of, pattern_fault, entry_fault, arc_fault, bits_fault, option_fault, Kind, OfMux, OfWord, OfEnum, OfFixed, Reading, row_fault, begins_with_dot, words_fault, unless_fault, BadLine, database_of}
-use Rattle.grammars.specs.RowByRow.{with_last, with_arc, with_bits, with_option, has_connection, with_connection, with_head, with_row, with_words, row_step, line_row, line_step, go_on, read_lines, nothing_read, database_read}
+use Rattle.grammars.specs.Rows.{has_words}
+use Rattle.grammars.specs.BitsDb.{Head, MuxHead, WordHead, EnumHead, FixedHead, head_of, arc_of, bits_of, option_of, same_ends, has_sink, has_source, has_word, has_enum, has_value, bad_line_if, head_fault, last_of, entry_fault, arc_fault, option_fault, Kind, OfMux, OfWord, OfEnum, OfFixed, Reading, row_fault, begins_with_dot, words_fault, unless_fault, BadLine, database_of}
+use Rattle.grammars.specs.RowByRow.{with_last, with_arc, with_bits, with_option, has_connection, with_connection, with_head, with_row, with_words, row_step, line_row, line_step, go_on, read_lines, nothing_read}
 use Rattle.grammars.proofs.Lasts.{last_pushed, with_last_pushed, Ending, NoLast, Last, ending_of}
 use Rattle.grammars.proofs.RowLemmas.{read_by_lines}
 use Rattle.links.proofs.Members.{in_left, in_right, in_either}
-use Rattle.fabric.specs.Device.{TypeDb, Device}
+use Rattle.fabric.specs.Device.{Device}
 use Rattle.fabric_laws.proofs.Members.{any_to}
 use Rattle.layout_laws.specs.Named.{NamesOnce}
 use Rattle.formed_laws.specs.Twice.{HasNoneTwice}

@@ -1,17 +1,17 @@
 -- Lists of things with keys, none of which stands twice, that grow at their end.
-use Rattle.std.proofs.Common.{◌≡◌, ℕ, Bool, true, false, inl, inr, List, [], ◌∷◌, ◌++◌, map, refl, sym, ap, subst, ◌∙◌}
+use Rattle.std.proofs.Common.{◌≡◌, ℕ, false, inl, inr, List, [], ◌∷◌, ◌++◌, map, refl, sym, ap, subst, ◌∙◌}
 use Rattle.std.specs.List.{list_any}
 use Rattle.std.specs.Str.{bytes_eq}
 use Rattle.std.proofs.lemmas.Bool.{false≢true}
 use Rattle.std.proofs.lemmas.List.{map-append}
 use Rattle.std.proofs.lemmas.Slice.Eq.{bytes_eq-Decides}
 use Rattle.words.specs.Members.{In}
-use Rattle.links.proofs.Members.{in_left, in_right, in_either, in_map, of_map}
+use Rattle.links.proofs.Members.{in_map, of_map}
 use Rattle.fabric_laws.proofs.Members.{any_to}
 use Rattle.grammars.specs.RowByRow.{with_last}
 use Rattle.layout_laws.specs.Named.{NoTwo}
 use Rattle.formed_laws.specs.Twice.{HasNoneTwice}
-use Rattle.formed_laws.proofs.Twice.{joined_twice, not_both, left_part}
+use Rattle.formed_laws.proofs.Twice.{joined_twice}
 
 -- one more element that is new
 pub pushed_twice : {X : Type 0} (xs : List X) (x : X) → HasNoneTwice xs → (In xs x → ⊥) → HasNoneTwice (xs ++ x ∷ [])

@@ -1,6 +1,6 @@
 -- Values of names, whole numbers and lists that are printed on a line are read back.
-use Rattle.std.proofs.Common.{◌≡◌, ◌≤◌, ◌<◌, ◌^◌, ℕ, suc, Bool, true, false, inl, inr, List, [], ◌∷◌, ◌++◌, map, Option, Some, None, option_map, option_and_then, decimal, refl, sym, ap, subst, ◌∙◌, arith, append-nil, append_assoc}
-use Rattle.std.specs.Prelude.{nat_le, nat_lt, ◌&&◌}
+use Rattle.std.proofs.Common.{◌≡◌, ◌≤◌, ◌<◌, ◌^◌, ℕ, suc, Bool, true, false, inl, inr, List, [], ◌∷◌, ◌++◌, map, Option, Some, option_map, option_and_then, decimal, refl, sym, ap, subst, ◌∙◌, arith, append-nil, append_assoc}
+use Rattle.std.specs.Prelude.{nat_le, nat_lt}
 use Rattle.std.specs.List.{list_all}
 use Rattle.std.specs.Str.{IsUtf8, is_utf8}
 use Rattle.std.proofs.lemmas.Bool.{and_parts, and_from, leb-true, lt-ltb}
@@ -13,7 +13,7 @@ use Rattle.json.specs.Tree as tree
 use Rattle.json.proofs.Printed.Decimals.{IsNumber-decimal}
 use Rattle.json.proofs.Printed.Trees.{value-json_tokens, ArePrintable-json_tokens}
 use Rattle.json.proofs.Printed.Utf8.{IsUtf8-quoted, IsUtf8-key, are_ascii, IsUtf8-are_ascii}
-use Rattle.serde_json.specs.Data.{Data, number, unsigned, string, array, Items, no_items, item, Members, no_members, member, object, put}
+use Rattle.serde_json.specs.Data.{Data, number, string, array, Items, item, Members, no_members, member, object, put}
 use Rattle.serde_json.specs.Read.{of_json, of_items, of_members, max_depth, read}
 use Rattle.serde_json.specs.View.{items_of}
 use Rattle.serde_json.specs.Written.{outline, items_outline, members_outline, compact_text, items_text, members_text, comma_if}
@@ -51,7 +51,7 @@ line_read d h =
     let ts = tree.json_tokens (outline d) in
     let lexed : tokens (compact_text d ++ 10 ∷ []) ≡ ts = ap (λ t. tokens (t ++ 10 ∷ [])) (sym (print-outline d)) ∙ tokens_of_line ts (ArePrintable-json_tokens (outline d) h.numbers) in
     let back : read (compact_text d ++ 10 ∷ []) ≡ Some d =
-        ap of_whole (ap (json.value max_depth) (lexed ∙ sym (append-nil ts)) ∙ value-json_tokens (outline d) max_depth [] h.shallow) ∙ h.same in
+    ap of_whole (ap (json.value max_depth) (lexed ∙ sym (append-nil ts)) ∙ value-json_tokens (outline d) max_depth [] h.shallow) ∙ h.same in
     let text : is_utf8 (compact_text d ++ 10 ∷ []) ≡ true = is_utf8-from_IsUtf8 (compact_text d ++ 10 ∷ []) (IsUtf8-append (compact_text d) (10 ∷ []) h.utf8 (IsUtf8-are_ascii (10 ∷ []) refl)) in
     rw text back
 

@@ -1,11 +1,11 @@
 -- What a line says can be printed.
-use Rattle.std.proofs.Common.{◌≡◌, ◌≤◌, ◌<◌, ◌+◌, ℕ, suc, Bool, true, false, not, cond, inl, inr, ◌⊎◌, List, [], ◌∷◌, ◌++◌, length, map, filter, reverse, append_assoc, Option, Some, None, option_map, refl, sym, ap, subst, ◌∙◌, arith}
-use Rattle.std.specs.Prelude.{◌||◌, ◌&&◌, ◌==◌, nat_le, codes, if◌then◌else◌}
+use Rattle.std.proofs.Common.{◌≡◌, ◌≤◌, ◌<◌, ◌+◌, ℕ, suc, Bool, true, false, not, cond, inl, inr, ◌⊎◌, List, [], ◌∷◌, ◌++◌, length, filter, reverse, append_assoc, Option, Some, None, option_map, refl, sym, ap, subst, ◌∙◌, arith}
+use Rattle.std.specs.Prelude.{◌||◌, ◌&&◌, ◌==◌, nat_le, codes}
 use Rattle.std.specs.List.{list_any, list_all, before_first, after_first}
 use Rattle.std.specs.Str.{bytes_eq}
 use Rattle.std.specs.Option.{option_and_then}
 use Rattle.std.proofs.lemmas.Bool.{false≢true, and_parts, and_from, or_parts, leb-true}
-use Rattle.std.proofs.lemmas.List.{map-append, reverse-append, reverse-reverse, length-map, length-reverse, append-nil}
+use Rattle.std.proofs.lemmas.List.{reverse-append, reverse-reverse, length-map, length-reverse, append-nil}
 use Rattle.std.proofs.lemmas.List.Elements.{filter-append}
 use Rattle.std.proofs.lemmas.List.Folds.{list_all-append}
 use Rattle.words.specs.Members.{In}
@@ -83,8 +83,8 @@ same_words : (text : List ℕ) → word_texts (without_blanks text) ≡ word_tex
 same_words text =
     let front = behind_blanks text in
     let back : word_texts (reverse (behind_blanks (reverse front))) ≡ word_texts front =
-        behind_holds (λ r. word_texts (reverse r) ≡ word_texts front)
-        (λ b bs blank e. sym (ap word_texts (reverse-append (b ∷ []) bs) ∙ words_before (reverse bs) b blank) ∙ e) (reverse front) (ap word_texts (reverse-reverse front)) in
+    behind_holds (λ r. word_texts (reverse r) ≡ word_texts front)
+    (λ b bs blank e. sym (ap word_texts (reverse-append (b ∷ []) bs) ∙ words_before (reverse bs) b blank) ∙ e) (reverse front) (ap word_texts (reverse-reverse front)) in
     back ∙ behind_holds (λ t. word_texts t ≡ word_texts text) (λ b bs blank e. sym (words_behind b bs blank) ∙ e) text refl
 
 -- its first byte isn't blank
@@ -141,7 +141,7 @@ all_reversed q (x ∷ xs) h =
 all_trimmed : (q : ℕ → Bool) (text : List ℕ) → list_all q text ≡ true → list_all q (without_blanks text) ≡ true
 all_trimmed q text h =
     let behind : (t : List ℕ) → list_all q t ≡ true → list_all q (behind_blanks t) ≡ true =
-        behind_holds (λ t. list_all q t ≡ true) (λ b bs blank k. (and_parts (q b) (list_all q bs) k).1) in
+    behind_holds (λ t. list_all q t ≡ true) (λ b bs blank k. (and_parts (q b) (list_all q bs) k).1) in
     all_reversed q (behind_blanks (reverse (behind_blanks text))) (behind (reverse (behind_blanks text)) (all_reversed q (behind_blanks text) (behind text h)))
 
 none_all : (q : ℕ → Bool) (xs : List ℕ) → list_any q xs ≡ false → list_all (λ b. not (q b)) xs ≡ true

@@ -1,21 +1,18 @@
 -- A line that says something and is printed again says the same.
-use Rattle.std.proofs.Common.{◌≡◌, ◌≢◌, ◌≤◌, ◌<◌, ◌^◌, ℕ, Bool, true, false, not, cond, inl, inr, ◌⊎◌, List, [], ◌∷◌, ◌++◌, length, map, reverse, Option, Some, None, decimal, refl, sym, ap, subst, ◌∙◌, arith, rules, append-nil, append_assoc}
-use Rattle.std.specs.Prelude.{◌||◌, ◌&&◌, ◌==◌, nat_le, codes, flat_map}
+use Rattle.std.proofs.Common.{◌≡◌, ◌≤◌, ◌<◌, ℕ, Bool, true, false, not, cond, List, [], ◌∷◌, ◌++◌, length, map, reverse, Option, Some, None, decimal, refl, sym, ap, ◌∙◌, arith, rules, append-nil, append_assoc}
+use Rattle.std.specs.Prelude.{◌||◌, ◌&&◌, ◌==◌, nat_le, codes}
 use Rattle.std.specs.List.{list_any, list_all}
-use Rattle.std.specs.Str.{bytes_eq}
 use Rattle.std.specs.Option.{option_and_then}
 use Rattle.std.proofs.lemmas.Bool.{false≢true, and_parts, and_from, ne_eqb, eqb-true, leb-true, le-leb}
 use Rattle.std.proofs.lemmas.List.{map-append, reverse-append, reverse-reverse, length-map, length-reverse}
 use Rattle.std.proofs.lemmas.List.Folds.{list_all-append}
 use Rattle.std.proofs.lemmas.Fmt.{digits_decimal}
 use Rattle.std.proofs.lemmas.Str.Parse.{IsNumeralModel, numerals_by_fold}
-use Rattle.words.specs.Members.{In}
-use Rattle.patterns.specs.Bits.{PatternBit}
 use Rattle.texts.specs.Lines.{is_line_feed}
 use Rattle.texts.specs.Names.{is_name_byte, is_name}
 use Rattle.texts.specs.Numbers.{is_digit, value_behind, value_of}
 use Rattle.texts.specs.Parts.{no_line_feed, no_blank}
-use Rattle.texts.specs.PatternBits.{pattern_bit_of, spelling_of}
+use Rattle.texts.specs.PatternBits.{pattern_bit_of}
 use Rattle.texts.specs.Words.{is_blank}
 use Rattle.texts.proofs.Printed.{bit_of_spelling}
 use Rattle.config_grammar.specs.ConfigLines.{ConfigLine, DeviceLine, HeadLine, TileLine, ArcOf, WordOf, EnumOf, UnknownOf, OutsideLine, without_blanks, is_bit_digit, bits_of_digits, unknown_at, says_two, says_three, says_words, is_outside, begins_outside, is_return, says}

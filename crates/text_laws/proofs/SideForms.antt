@@ -1,5 +1,5 @@
 -- The elements of a side file that is read, and that what they print has their form.
-use Rattle.std.proofs.Common.{◌≡◌, ◌≤◌, ◌<◌, ◌^◌, ℕ, Bool, true, false, List, [], ◌∷◌, Option, Some, None, cond, refl, ap, subst, ◌∙◌, arith}
+use Rattle.std.proofs.Common.{◌≡◌, ◌<◌, ◌^◌, ℕ, Bool, true, false, List, [], ◌∷◌, Option, Some, None, cond, refl, ap, subst, arith}
 use Rattle.std.specs.Prelude.{nat_le, if◌then◌else◌}
 use Rattle.std.specs.Option.{option_and_then}
 use Rattle.std.proofs.lemmas.Bool.{leb-true}
@@ -9,7 +9,7 @@ use Rattle.records.specs.Side.{Domain, D0, D1, D2, Placed, Triple, Voter}
 use Rattle.texts.specs.Names.{is_name}
 use Rattle.json_forms.specs.Options.{◌>>=◌}
 use Rattle.json_forms.specs.Values.{if_name, list_in, name_in, whole_in}
-use Rattle.json_forms.specs.Parts.{two_of, three_of, pair_in, triple_in}
+use Rattle.json_forms.specs.Parts.{pair_in, triple_in}
 use Rattle.side_form.specs.Placings.{four_of, domain_in, placed_in, names_in, voter_in}
 use Rattle.side_form.specs.SidePrint.{domain_number, whole_value, placed_value, triple_value, voter_value}
 use Rattle.cells_laws.proofs.Options.{then_from}

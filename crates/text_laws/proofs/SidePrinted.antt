@@ -1,6 +1,6 @@
 -- A side file that is read is printed so that it is read back.
-use Rattle.std.proofs.Common.{◌≡◌, ◌≤◌, ℕ, suc, Bool, true, false, inl, inr, List, [], ◌∷◌, ◌++◌, length, map, filter_map, Option, Some, None, cond, refl, sym, ap, subst, ◌∙◌, arith, le-leb}
-use Rattle.std.specs.Prelude.{Result, Ok, Err, codes, nat_lt, if◌then◌else◌}
+use Rattle.std.proofs.Common.{◌≡◌, ◌≤◌, ℕ, suc, Bool, true, false, inl, inr, List, [], ◌∷◌, ◌++◌, length, map, filter_map, Option, Some, None, cond, refl, ap, subst, ◌∙◌, arith}
+use Rattle.std.specs.Prelude.{Result, Ok, Err, codes, nat_lt}
 use Rattle.std.specs.List.{cons_option}
 use Rattle.std.specs.Option.{ok_or}
 use Rattle.std.proofs.lemmas.Bool.{ltb-false, le-ltb}
@@ -23,7 +23,7 @@ use Rattle.cells_laws.proofs.Options.{none_or}
 use Rattle.formed_laws.specs.Readers.{IsReadSide}
 use Rattle.formed_laws.proofs.Elements.{list_judged}
 use Rattle.formed_laws.proofs.Results.{both, no_fault}
-use Rattle.text_laws.proofs.ReadBack.{IsPlain, line_read, values_plain, PlainMembers, put_all, object_plain, plain_within}
+use Rattle.text_laws.proofs.ReadBack.{IsPlain, line_read, values_plain, PlainMembers, object_plain, plain_within}
 use Rattle.text_laws.proofs.SideForms.{IsPlacedForm, IsTripleForm, IsVoterForm, placed_form, placed_back, placed_plain, triple_form, triple_back, triple_plain, voter_form, voter_back, voter_plain}
 
 -- the elements of a side file have their forms, and there is at most one clock
@@ -112,7 +112,7 @@ side_forms : (d : Data) (side : Side) → side_in d ≡ Ok side → HasForms sid
 unfolding side_in
 side_forms d side h =
     let l = side_parts (list_read (codes "slices") placed_in any_form d) (list_read (codes "pads") placed_in any_form d) (list_read (codes "triples") names_in any_form d)
-        (list_read (codes "inputs") names_in any_form d) (list_read (codes "outputs") names_in any_form d) (clocks_read d) (list_read (codes "voters") voter_in any_form d) side h in
+    (list_read (codes "inputs") names_in any_form d) (list_read (codes "outputs") names_in any_form d) (clocks_read d) (list_read (codes "voters") voter_in any_form d) side h in
     let c = clocks_form d side.clocks l.clocks_are in
     record {
       slices = of_list IsPlacedForm (codes "slices") placed_in placed_form d side.slices l.slices_are;

@@ -1,12 +1,12 @@
 -- Texts that are printed on lines are the lines, and a line's words are the pieces between its blanks.
-use Rattle.std.proofs.Common.{◌≡◌, ℕ, zero, suc, ◌+◌, ◌-◌, Bool, true, false, not, inl, inr, List, [], ◌∷◌, ◌++◌, length, get_or, map, filter, min, refl, sym, ap, ap₂, subst, ◌∙◌, append_assoc}
-use Rattle.std.specs.Prelude.{flat_map, ◌==◌, ◌||◌}
-use Rattle.std.specs.List.{list_any, list_all}
+use Rattle.std.proofs.Common.{◌≡◌, ℕ, zero, suc, ◌+◌, ◌-◌, Bool, true, false, inl, inr, List, [], ◌∷◌, ◌++◌, length, get_or, map, filter, min, refl, ap, ap₂, ◌∙◌, append_assoc}
+use Rattle.std.specs.Prelude.{◌==◌}
+use Rattle.std.specs.List.{list_any}
 use Rattle.std.proofs.lemmas.Bool.{or_parts}
 use Rattle.words.specs.Members.{In}
-use Rattle.texts.specs.Pieces.{Span, pieces, placed}
+use Rattle.texts.specs.Pieces.{pieces, placed}
 use Rattle.texts.specs.Lines.{Line, is_line_feed, without_return, last_number, numbered, lines_of}
-use Rattle.texts.specs.Words.{is_blank, has_bytes, words_of}
+use Rattle.texts.specs.Words.{is_blank, has_bytes}
 use Rattle.texts.specs.Parts.{no_line_feed, no_blank}
 use Rattle.texts.proofs.Joined.{pieces-append, pieces_alone}
 use Rattle.config_grammar.specs.ConfigLines.{is_return, words_in}

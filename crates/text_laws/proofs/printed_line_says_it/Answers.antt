@@ -1,6 +1,5 @@
-use Rattle.std.proofs.Common.{◌≡◌, Bool, true, false, Some, sym, ap, ap₂, ◌∙◌}
-use Rattle.config_grammar.specs.ConfigLines.{says, words_in}
-use Rattle.text_laws.specs.Printed.{printed_line}
+use Rattle.std.proofs.Common.{sym, ap, ◌∙◌}
+use Rattle.config_grammar.specs.ConfigLines.{says}
 use Rattle.text_laws.proofs.TextLines.{words_are}
 use Rattle.text_laws.proofs.Sayings.{says_text, says_printed, printed_bytes}
 use Rattle.text_laws.proofs.Said.{said_sayable}
