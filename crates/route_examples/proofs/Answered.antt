@@ -15,7 +15,7 @@ use Rattle.route_examples.proofs.SecondAttempt.{second_attempt}
 use Rattle.route_examples.proofs.Started.{started}
 
 -- the corridor is safe, and so is its text without arc lines
-told : IsToldBy mini_b (configured (with_corridor g corridor))
+pub told : IsToldBy mini_b (configured (with_corridor g corridor))
 told = told_by corridor refl
 
 pub corridor_safe : IsSafe (configured (with_corridor g corridor))

@@ -6,3 +6,5 @@ pub mod Started
 pub mod Answered
 pub mod Uncrossed
 pub mod Mended
+pub mod CorridorMeets
+pub mod CorridorRead

@@ -4,29 +4,44 @@
 ghost use Rattle.attempts.specs.Attempts.{AttemptComplete, EndRounds, Ended, IsAnswer, Routed, blocked_event, no_route};
 ghost use Rattle.attempts.specs.Starts.{IsStart};
 ghost use Rattle.attempts.specs.Turns.{Blocked, Complete, ComesOut};
+ghost use Rattle.cells.specs.CellsOf.{cells_of};
+ghost use Rattle.circuit.specs.Triplicated.{IsTriplicated};
+ghost use Rattle.circuit.specs.WellFormed.{IsWellFormed};
+ghost use Rattle.fabric.specs.Image.{image_of};
 ghost use Rattle.fabric.specs.MuxBits.{bit_cmp, mux_bits};
 ghost use Rattle.fabric_laws.specs.Insertion.{in_order};
 ghost use Rattle.fabric_laws.specs.PlainGraph.{graph_of};
+ghost use Rattle.links.specs.Links.{IsClean};
 ghost use Rattle.mini.specs.MiniA.{mini_a};
 ghost use Rattle.mini.specs.Spoken.{text_of};
 ghost use Rattle.mini.specs.ToggleCells.{toggle_cells, wire_at};
 ghost use Rattle.mini.specs.Toggle.{toggle};
-ghost use Rattle.mini_b.specs.Corridor.{corridor};
+ghost use Rattle.mini_b.specs.Corridor.{corridor, corridor_side};
+ghost use Rattle.mini_b.specs.CorridorCells.{corridor_cells};
 ghost use Rattle.mini_b.specs.MiniB.{mini_b};
 ghost use Rattle.records.specs.Side.{D0};
 ghost use Rattle.repair.specs.Layouts.{configured, turn_over};
 ghost use Rattle.paths.specs.Paths.{weight_of};
 ghost use Rattle.repair.specs.Routes.{IsBlocked, IsRoute, IsTheRoute, roads_for, wire_weight};
+ghost use Rattle.repair.specs.Turns.{routing};
 ghost use Rattle.route_examples.specs.Corridors.{after, bare, cut, eighth, fifteen, first_seven, inside, inside_texts, last_seven, over_u, read, rim, rim_texts, second_ways, table_net, u0_over_v, v0_over_u, with_corridor, with_ways};
 ghost use Rattle.route_examples.specs.Crossed.{crossed_job, crossed_read, crossed_start, eight_texts, eight_ways, net_of_a0, over, pin_b, rest_of_crossed, turn_up, up, with_cells};
 ghost use Rattle.route_examples.specs.Starting.{connection_text, corridor_job, corridor_start, fifteen_texts};
-ghost use Rattle.std.specs.Prelude.{codes, length, map, [], ◌++◌, ◌∷◌, ◌≡◌, ℕ};
+ghost use Rattle.std.specs.Prelude.{codes, length, map, Ok, [], ◌++◌, ◌∷◌, ◌≡◌, ℕ};
 ghost use Rattle.upset.specs.Safe.{IsSafe};
 
-/// The corridor on MINI-B is safe as it is written.
+/// The corridor on MINI-B has these cells, is clean, and is safe as it is written.
 pub fn corridor_is_safe()
+    ensures cells { let g = graph_of mini_b in cells_of g mini_b.profile (image_of g corridor) corridor_side ≡ Ok (corridor_cells g) }
+    ensures clean { let g = graph_of mini_b in IsClean (routing (configured (with_corridor g corridor))) }
     ensures safe { let g = graph_of mini_b in IsSafe (configured (with_corridor g corridor)) }
     ensures bits { length (in_order bit_cmp (mux_bits (graph_of mini_b))) ≡ 196 }
+{}
+
+/// It meets all that masking asks for.
+pub fn corridor_is_triplicated()
+    ensures formed { IsWellFormed (read (graph_of mini_b)) }
+    ensures triplicated { IsTriplicated (read (graph_of mini_b)) }
 {}
 
 /// Repair of the whole corridor starts from its text without arc lines, with these fifteen connections in this order.
