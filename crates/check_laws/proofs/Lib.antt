@@ -18,3 +18,4 @@ pub mod OneRefusal
 pub mod Converse
 pub mod BadPlaces
 pub mod OneOutcome
+pub mod Unrefused

@@ -49,6 +49,12 @@ pub fn never_both()
         → IsFirstRefusal files inputs r → ⊥ }
 {}
 
+/// Inputs without a refusal are accepted.
+pub fn unrefused_is_accepted()
+    ensures { (files : Files) (inputs : Inputs) → ((r : Refusal) → IsFirstRefusal files inputs r → ⊥)
+        → (design : Design) × ((g : Graph) × ((cells : Cells) × IsAccepted files inputs design g cells)) }
+{}
+
 /// Inputs have one first refusal at most.
 pub fn one_first_refusal()
     ensures { (files : Files) (inputs : Inputs) (r s : Refusal) → IsFirstRefusal files inputs r → IsFirstRefusal files inputs s → r ≡ s }
