@@ -28,9 +28,8 @@ pub record EntriesAre (cells : List Placed) (t : Triple) : Type 0 where
 abbrev pub IsPaired : List Triple → List ℕ → Type 0
 IsPaired triples name = (t : Triple) × (In triples t × IsEntry t name)
 
--- No two placed cells have one name or one site. The entries of triples are slices, those of
--- inputs, outputs and clocks are pads, each in the domain of its place. Each cell is in a triple of its sort, and no
--- name stands in all triples twice.
+-- No two placed cells have one name or one site. The entries of triples are slices, those of inputs, outputs and clocks
+-- are pads, each in the domain of its place. Each cell is in a triple of its sort, and no name is twice an entry.
 pub record IsApart (side : Side) : Type 0 where
   pub names : HasNoneTwice (map (λ p. p.name) (placed_cells side))
   pub sites : HasNoneTwice (map site_of (placed_cells side))
