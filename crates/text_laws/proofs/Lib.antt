@@ -9,3 +9,4 @@ pub mod Sayings
 pub mod Said
 pub mod ConfigRead
 pub mod ConfigPrinted
+pub mod PrintedParts

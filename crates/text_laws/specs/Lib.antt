@@ -1,2 +1,3 @@
 pub mod DatabaseRead
 pub mod Printed
+pub mod SameButLines

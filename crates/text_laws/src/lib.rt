@@ -4,7 +4,8 @@
 
 ghost use Rattle.config_grammar.specs.ConfigLines.{is_return, says, words_in, ConfigLine, OutsideLine};
 ghost use Rattle.config_grammar.specs.ConfigPrint.{config_text};
-ghost use Rattle.config_grammar.specs.ConfigText.{items_of};
+ghost use Rattle.config_grammar.specs.ConfigText.{devices_of, items_of};
+ghost use Rattle.config_grammar.specs.Sections.{heads_of, sections_of};
 ghost use Rattle.fabric.specs.Device.{Device};
 ghost use Rattle.formed_laws.specs.Readers.{IsReadSide};
 ghost use Rattle.layout_laws.specs.Named.{NamesOnce};
@@ -13,9 +14,10 @@ ghost use Rattle.records.specs.Database.{TileDb};
 ghost use Rattle.records.specs.Side.{Side};
 ghost use Rattle.side_form.specs.Side.{side_of};
 ghost use Rattle.side_form.specs.SidePrint.{side_text};
-ghost use Rattle.std.specs.Prelude.{false, map, true, List, Ok, Some, ℕ, ◌≡◌};
+ghost use Rattle.std.specs.Prelude.{[], false, filter, map, true, List, Ok, Some, ℕ, ◌≡◌, ◌∷◌};
 ghost use Rattle.std.specs.List.{list_any};
 ghost use Rattle.text_laws.specs.DatabaseRead.{HasNamesOnce, HasReadFiles, IsReadDatabase};
+ghost use Rattle.text_laws.specs.SameButLines.{has_lines, unnumbered};
 ghost use Rattle.text_laws.specs.Printed.{lined, printed_line, said_by, AreOneLine, IsReadConfig};
 ghost use Rattle.texts.specs.Lines.{lines_of, Line};
 ghost use Rattle.texts.specs.Parts.{no_line_feed};
@@ -49,4 +51,13 @@ pub fn printed_line_says_it()
 /// The text of a configuration that is read has its lines, in order, and nothing else.
 pub fn printed_config_says_it()
     ensures { (c : Config) → IsReadConfig c → map (λ item. item.says) (items_of (config_text c)) ≡ map (λ said. Some said) (said_by c) }
+{}
+
+/// It names the device and has the heads of the configuration, and its sections are those with lines, but for the numbers
+/// of lines.
+pub fn printed_config_has_its_parts()
+    ensures heads { (c : Config) → IsReadConfig c → heads_of (items_of (config_text c)) ≡ c.heads }
+    ensures device { (c : Config) → IsReadConfig c → devices_of (items_of (config_text c)) ≡ c.device ∷ [] }
+    ensures sections { (c : Config) → IsReadConfig c
+        → map unnumbered (sections_of (items_of (config_text c))) ≡ map unnumbered (filter has_lines c.tiles) }
 {}

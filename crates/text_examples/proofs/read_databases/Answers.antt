@@ -1,6 +1,5 @@
 use Rattle.std.proofs.Common.{◌≡◌, inl, inr, refl, subst}
 use Rattle.std.specs.Prelude.{Ok}
-use Rattle.words.specs.Members.{In}
 use Rattle.fabric.specs.Device.{TypeDb}
 use Rattle.grammars.specs.BitsDb.{database_of}
 use Rattle.formed_examples.proofs.Texts.{grid_read}
