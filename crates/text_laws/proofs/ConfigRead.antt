@@ -142,7 +142,7 @@ device_sayable (Some OutsideLine) d k h = absurd (let no : ⊥ = cc in no)
 -- ---- what is put in order was there
 
 module _ {X : Type 0} (key : X → List ℕ) where
-  put_from : (x : X) (ys : List X) (z : X) → In (put_in_order key x ys) z → (x ≡ z) ⊎ In ys z
+  pub put_from : (x : X) (ys : List X) (z : X) → In (put_in_order key x ys) z → (x ≡ z) ⊎ In ys z
   put_from x [] z i = i
   put_from x (y ∷ ys) z i = go (slice_cmp nat_cmp (key x) (key y)) i (put_from x ys z)
     where
@@ -151,7 +151,7 @@ module _ {X : Type 0} (key : X → List ℕ) where
       go Equal j ih = j
       go Greater j ih = elim j [ inl e ↦ inr (inl e) | inr l ↦ elim (ih l) [ inl e ↦ inl e | inr m ↦ inr (inr m) ] ]
 
-  put_once_from : (x : X) (ys : List X) (z : X) → In (put_once key x ys) z → (x ≡ z) ⊎ In ys z
+  pub put_once_from : (x : X) (ys : List X) (z : X) → In (put_once key x ys) z → (x ≡ z) ⊎ In ys z
   put_once_from x [] z i = i
   put_once_from x (y ∷ ys) z i = go (slice_cmp nat_cmp (key x) (key y)) i (put_once_from x ys z)
     where
@@ -160,7 +160,7 @@ module _ {X : Type 0} (key : X → List ℕ) where
       go Equal j ih = elim j [ inl e ↦ inl e | inr l ↦ inr (inr l) ]
       go Greater j ih = elim j [ inl e ↦ inr (inl e) | inr l ↦ elim (ih l) [ inl e ↦ inl e | inr m ↦ inr (inr m) ] ]
 
-  ordered_from : (xs : List X) (z : X) → In (in_order key xs) z → In xs z
+  pub ordered_from : (xs : List X) (z : X) → In (in_order key xs) z → In xs z
   ordered_from [] z i = i
   ordered_from (x ∷ xs) z i = elim (put_from x (in_order key xs) z i) [ inl e ↦ inl e | inr j ↦ inr (ordered_from xs z j) ]
 
@@ -204,7 +204,7 @@ items_sayable bytes h item i =
     subst (λ (x : Item). SaysSayable x.says) l.1.1
     (says_sayable l.0 l.0.number f.0 (line_feeds 1 0 (lines_of bytes) bytes (lines_make bytes) l.0 there) (says l.0.text (words_in l.0)) refl right)
 
-no_fault : {c : Config} (o : Option ConfigFault) (r : Result Config ConfigFault) → unless_fault o r ≡ Ok c → (o ≡ None) × (r ≡ Ok c)
+pub no_fault : {c : Config} (o : Option ConfigFault) (r : Result Config ConfigFault) → unless_fault o r ≡ Ok c → (o ≡ None) × (r ≡ Ok c)
 no_fault None r h = (refl, h)
 no_fault (Some f) r h = absurd (let no : ⊥ = cc in no)
 

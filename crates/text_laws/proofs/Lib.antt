@@ -10,3 +10,4 @@ pub mod Said
 pub mod ConfigRead
 pub mod ConfigPrinted
 pub mod PrintedParts
+pub mod ConfigOrder

@@ -1,3 +1,4 @@
 pub mod DatabaseRead
 pub mod Printed
 pub mod SameButLines
+pub mod ConfigOrder

@@ -16,6 +16,7 @@ ghost use Rattle.side_form.specs.Side.{side_of};
 ghost use Rattle.side_form.specs.SidePrint.{side_text};
 ghost use Rattle.std.specs.Prelude.{[], false, filter, map, true, List, Ok, Some, ℕ, ◌≡◌, ◌∷◌};
 ghost use Rattle.std.specs.List.{list_any};
+ghost use Rattle.text_laws.specs.ConfigOrder.{IsInOrder};
 ghost use Rattle.text_laws.specs.DatabaseRead.{HasNamesOnce, HasReadFiles, IsReadDatabase};
 ghost use Rattle.text_laws.specs.SameButLines.{has_lines, unnumbered};
 ghost use Rattle.text_laws.specs.Printed.{lined, printed_line, said_by, AreOneLine, IsReadConfig};
@@ -60,4 +61,10 @@ pub fn printed_config_has_its_parts()
     ensures device { (c : Config) → IsReadConfig c → devices_of (items_of (config_text c)) ≡ c.device ∷ [] }
     ensures sections { (c : Config) → IsReadConfig c
         → map unnumbered (sections_of (items_of (config_text c))) ≡ map unnumbered (filter has_lines c.tiles) }
+{}
+
+/// In a configuration that is read tiles stand in byte order of their names and the arcs of a tile in byte order of their
+/// lines, none twice.
+pub fn read_config_is_in_order()
+    ensures { (c : Config) → IsReadConfig c → IsInOrder c }
 {}
