@@ -11,3 +11,4 @@ pub mod ConfigRead
 pub mod ConfigPrinted
 pub mod PrintedParts
 pub mod ConfigOrder
+pub mod SameAgain

@@ -1,6 +1,6 @@
 -- Sections without the numbers of their lines. (Our own.)
-use Rattle.std.specs.Prelude.{Bool, not, map, ◌&&◌}
-use Rattle.records.specs.Config.{ArcLine, WordLine, EnumLine, UnknownLine, TileText}
+use Rattle.std.specs.Prelude.{◌≡◌, Bool, not, map, filter, ◌&&◌}
+use Rattle.records.specs.Config.{ArcLine, WordLine, EnumLine, UnknownLine, TileText, Config}
 use Rattle.config_grammar.specs.ConfigText.{is_none_yet}
 
 abbrev pub unnumbered_arc : ArcLine → ArcLine
@@ -29,3 +29,9 @@ unnumbered t = record {
 -- a section has an arc, a word, an enum or an unknown bit
 abbrev pub has_lines : TileText → Bool
 has_lines t = not (is_none_yet t.arcs && is_none_yet t.words && is_none_yet t.enums && is_none_yet t.unknowns)
+
+-- one device and equal heads, and the same sections with lines, but for the numbers of lines
+pub record SameButLines (c d : Config) : Type 0 where
+  pub device : d.device ≡ c.device
+  pub heads : d.heads ≡ c.heads
+  pub sections : map unnumbered (filter has_lines d.tiles) ≡ map unnumbered (filter has_lines c.tiles)

@@ -4,7 +4,7 @@
 
 ghost use Rattle.config_grammar.specs.ConfigLines.{is_return, says, words_in, ConfigLine, OutsideLine};
 ghost use Rattle.config_grammar.specs.ConfigPrint.{config_text};
-ghost use Rattle.config_grammar.specs.ConfigText.{devices_of, items_of};
+ghost use Rattle.config_grammar.specs.ConfigText.{config_of, devices_of, items_of};
 ghost use Rattle.config_grammar.specs.Sections.{heads_of, sections_of};
 ghost use Rattle.fabric.specs.Device.{Device};
 ghost use Rattle.formed_laws.specs.Readers.{IsReadSide};
@@ -18,7 +18,7 @@ ghost use Rattle.std.specs.Prelude.{[], false, filter, map, true, List, Ok, Some
 ghost use Rattle.std.specs.List.{list_any};
 ghost use Rattle.text_laws.specs.ConfigOrder.{IsInOrder};
 ghost use Rattle.text_laws.specs.DatabaseRead.{HasNamesOnce, HasReadFiles, IsReadDatabase};
-ghost use Rattle.text_laws.specs.SameButLines.{has_lines, unnumbered};
+ghost use Rattle.text_laws.specs.SameButLines.{has_lines, unnumbered, SameButLines};
 ghost use Rattle.text_laws.specs.Printed.{lined, printed_line, said_by, AreOneLine, IsReadConfig};
 ghost use Rattle.texts.specs.Lines.{lines_of, Line};
 ghost use Rattle.texts.specs.Parts.{no_line_feed};
@@ -67,4 +67,10 @@ pub fn printed_config_has_its_parts()
 /// lines, none twice.
 pub fn read_config_is_in_order()
     ensures { (c : Config) → IsReadConfig c → IsInOrder c }
+{}
+
+/// What the text of a configuration that is read says is the same configuration, but for the numbers of lines and sections
+/// without lines.
+pub fn printed_config_says_the_same()
+    ensures { (c : Config) → IsReadConfig c → SameButLines c (config_of c.device (items_of (config_text c))) }
 {}
