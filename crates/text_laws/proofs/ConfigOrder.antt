@@ -19,7 +19,7 @@ use Rattle.formed_laws.specs.Twice.{HasNoneTwice}
 use Rattle.config_grammar.specs.ConfigLines.{ConfigLine, DeviceLine, HeadLine, TileLine, ArcOf, WordOf, EnumOf, UnknownOf, OutsideLine}
 use Rattle.config_grammar.specs.Sections.{Item, Behind, behind_with, behind_of, sections_of}
 use Rattle.config_grammar.specs.Ordered.{put_in_order, put_once, in_order, in_order_once}
-use Rattle.config_grammar.specs.ConfigText.{ConfigFault, TooLarge, BadLine, items_of, devices_of, has_tile, most_sections, tile_fault, says_fault, item_fault, arc_key, section_in_order, config_of, with_device}
+use Rattle.config_grammar.specs.ConfigText.{TooLarge, BadLine, items_of, devices_of, has_tile, most_sections, tile_fault, says_fault, item_fault, arc_key, section_in_order, config_of, with_device}
 use Rattle.records.specs.Limits.{Tiles}
 use Rattle.text_laws.specs.Printed.{IsReadConfig}
 use Rattle.text_laws.specs.ConfigOrder.{IsInOrder}

@@ -1,12 +1,12 @@
 -- The device, the heads and the sections that the text of a configuration says.
-use Rattle.std.proofs.Common.{◌≡◌, ℕ, Bool, true, false, not, List, [], ◌∷◌, ◌++◌, map, filter, filter_map, flat_map, Option, Some, None, cond, refl, sym, ap, ap₂, ◌∙◌, append-nil, append_assoc}
+use Rattle.std.proofs.Common.{◌≡◌, ℕ, Bool, true, false, List, [], ◌∷◌, ◌++◌, map, filter, flat_map, Option, Some, None, cond, refl, sym, ap, ap₂, ◌∙◌, append-nil, append_assoc}
 use Rattle.std.specs.List.{cons_option}
 use Rattle.std.proofs.lemmas.List.{map-append}
 use Rattle.records.specs.Config.{Head, ArcLine, WordLine, EnumLine, UnknownLine, TileText, Config}
 use Rattle.config_grammar.specs.ConfigLines.{ConfigLine, DeviceLine, HeadLine, TileLine, ArcOf, WordOf, EnumOf, UnknownOf, OutsideLine}
 use Rattle.config_grammar.specs.ConfigPrint.{config_text}
 use Rattle.config_grammar.specs.ConfigText.{items_of, devices_of}
-use Rattle.config_grammar.specs.Sections.{Item, line_before, no_lines, Behind, nothing_behind, behind_with, behind_of, sections_of, head_before, heads_of, device_in}
+use Rattle.config_grammar.specs.Sections.{Item, no_lines, Behind, behind_with, behind_of, sections_of, head_before, heads_of, device_in}
 use Rattle.text_laws.specs.Printed.{said_in, section_says, said_by, IsReadConfig}
 use Rattle.text_laws.specs.SameButLines.{unnumbered_arc, unnumbered_word, unnumbered_enum, unnumbered_unknown, unnumbered, has_lines}
 use Rattle.text_laws.proofs.ConfigPrinted.{printed_says}
@@ -172,11 +172,11 @@ section_behind : (t : TileText) (rest : List Item) (ts : List TileText) → behi
 section_behind t rest ts e =
     let u = unknowns_behind t.unknowns rest ∙ ap (λ (b : Behind). let c : Behind = record { inside = record b.inside { unknowns = map unnumbered_unknown t.unknowns ++ b.inside.unknowns }; sections = b.sections } in c) e in
     let n = enums_behind t.enums (bare_lines (map (λ u. UnknownOf u.frame u.bit) t.unknowns) ++ rest)
-        ∙ ap (λ (b : Behind). let c : Behind = record { inside = record b.inside { enums = map unnumbered_enum t.enums ++ b.inside.enums }; sections = b.sections } in c) u in
+    ∙ ap (λ (b : Behind). let c : Behind = record { inside = record b.inside { enums = map unnumbered_enum t.enums ++ b.inside.enums }; sections = b.sections } in c) u in
     let w = words_behind t.words (bare_lines (map (λ e. EnumOf e.name e.value) t.enums) ++ (bare_lines (map (λ u. UnknownOf u.frame u.bit) t.unknowns) ++ rest))
-        ∙ ap (λ (b : Behind). let c : Behind = record { inside = record b.inside { words = map unnumbered_word t.words ++ b.inside.words }; sections = b.sections } in c) n in
+    ∙ ap (λ (b : Behind). let c : Behind = record { inside = record b.inside { words = map unnumbered_word t.words ++ b.inside.words }; sections = b.sections } in c) n in
     let a = arcs_behind t.arcs (bare_lines (map (λ w. WordOf w.name w.bits) t.words) ++ (bare_lines (map (λ e. EnumOf e.name e.value) t.enums) ++ (bare_lines (map (λ u. UnknownOf u.frame u.bit) t.unknowns) ++ rest)))
-        ∙ ap (λ (b : Behind). let c : Behind = record { inside = record b.inside { arcs = map unnumbered_arc t.arcs ++ b.inside.arcs }; sections = b.sections } in c) w in
+    ∙ ap (λ (b : Behind). let c : Behind = record { inside = record b.inside { arcs = map unnumbered_arc t.arcs ++ b.inside.arcs }; sections = b.sections } in c) w in
     ap behind_of (in_parts_are t rest) ∙ a
     ∙ ap₂ (λ (x : List ArcLine × List WordLine) (y : List EnumLine × List UnknownLine). let c : Behind = record { inside = record { tile = []; line = 0; arcs = x.0; words = x.1; enums = y.0; unknowns = y.1 }; sections = ts } in c)
     (ap₂ (λ (x : List ArcLine) (y : List WordLine). let p : List ArcLine × List WordLine = (x, y) in p) (append-nil (map unnumbered_arc t.arcs)) (append-nil (map unnumbered_word t.words)))

@@ -1,6 +1,5 @@
 -- What the text of a configuration says is the configuration again, but for the numbers of lines.
-use Rattle.std.proofs.Common.{◌≡◌, ◌⊎◌, ℕ, Bool, true, false, inl, inr, List, [], ◌∷◌, map, filter, cond, refl, sym, ap, ap₂, subst, ◌∙◌}
-use Rattle.std.specs.declared.cmp.Ordering.{Ordering}
+use Rattle.std.proofs.Common.{◌≡◌, ℕ, Bool, true, false, inl, inr, List, [], ◌∷◌, map, filter, cond, refl, sym, ap, ap₂, subst, ◌∙◌}
 use Rattle.std.specs.declared.cmp.Ordering.TheVariants.{Less}
 use Rattle.std.specs.Ordering.{match_ordering}
 use Rattle.words.specs.Members.{In}
@@ -13,7 +12,6 @@ use Rattle.config_grammar.specs.ConfigPrint.{config_text}
 use Rattle.config_grammar.specs.ConfigText.{items_of, arc_key, section_in_order, config_of}
 use Rattle.config_grammar.specs.Sections.{sections_of}
 use Rattle.config_grammar.specs.Ordered.{put_in_order, put_once, in_order, in_order_once}
-use Rattle.text_laws.specs.ConfigOrder.{IsInOrder}
 use Rattle.text_laws.specs.Printed.{IsReadConfig}
 use Rattle.text_laws.specs.SameButLines.{unnumbered_arc, unnumbered, has_lines, SameButLines}
 use Rattle.text_laws.proofs.ConfigOrder.{read_in_order}
@@ -98,8 +96,8 @@ same_again c read =
     let kept = filter has_lines c.tiles in
     let same = its_sections_are c read in
     let arcs = goes_over (λ t. IsRising name_cmp (map arc_key t.arcs))
-        (λ t u e r. subst (IsRising name_cmp) (sym (keys_of u) ∙ ap (λ (v : TileText). map arc_key v.arcs) (sym e) ∙ keys_of t) r) sections kept same
-        (λ t i. order.arcs t (in_filter_from has_lines c.tiles t i).0) in
+    (λ t u e r. subst (IsRising name_cmp) (sym (keys_of u) ∙ ap (λ (v : TileText). map arc_key v.arcs) (sym e) ∙ keys_of t) r) sections kept same
+    (λ t i. order.arcs t (in_filter_from has_lines c.tiles t i).0) in
     let some = goes_over (λ t. has_lines t ≡ true) (λ t u e h. sym (lines_kept t) ∙ ap has_lines e ∙ lines_kept u ∙ h) sections kept same (λ t i. (in_filter_from has_lines c.tiles t i).1) in
     let names : map (λ (t : TileText). t.tile) kept ≡ map (λ t. t.tile) sections = sym (names_of kept) ∙ ap (map (λ t. t.tile)) (sym same) ∙ names_of sections in
     let rising = subst (IsRising name_cmp) names (left_rising (λ (t : TileText). t.tile) has_lines c.tiles order.tiles) in
