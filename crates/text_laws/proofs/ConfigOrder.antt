@@ -69,7 +69,7 @@ module _ {X : Type 0} (key : X → List ℕ) where
 
 -- ---- no tile has two sections
 
-tile_in : Option ConfigLine → Option (List ℕ)
+abbrev pub tile_in : Option ConfigLine → Option (List ℕ)
 tile_in None = None
 tile_in (Some (DeviceLine name)) = None
 tile_in (Some (HeadLine text)) = None
@@ -80,11 +80,10 @@ tile_in (Some (EnumOf name value)) = None
 tile_in (Some (UnknownOf frame bit)) = None
 tile_in (Some OutsideLine) = None
 
-abbrev tile_names : List Item → List (List ℕ)
+abbrev pub tile_names : List Item → List (List ℕ)
 tile_names items = filter_map (λ i. tile_in i.says) items
 
 names_step : (n : ℕ) (o : Option ConfigLine) (b : Behind) → map (λ t. t.tile) (behind_with n o b).sections ≡ cons_option (tile_in o) (map (λ t. t.tile) b.sections)
-unfolding tile_in
 names_step n None b = refl
 names_step n (Some (DeviceLine name)) b = refl
 names_step n (Some (HeadLine text)) b = refl
@@ -95,7 +94,7 @@ names_step n (Some (EnumOf name value)) b = refl
 names_step n (Some (UnknownOf frame bit)) b = refl
 names_step n (Some OutsideLine) b = refl
 
-names_are : (items : List Item) → map (λ t. t.tile) (sections_of items) ≡ tile_names items
+pub names_are : (items : List Item) → map (λ t. t.tile) (sections_of items) ≡ tile_names items
 names_are [] = refl
 names_are (i ∷ is) = names_step i.number i.says (behind_of is) ∙ ap (cons_option (tile_in i.says)) (names_are is)
 
@@ -110,7 +109,6 @@ as_before : (names : List (List ℕ)) → HasNoneTwice names → HasNoneTwice (n
 as_before names h = subst HasNoneTwice (sym (append-nil names)) h
 
 one_more_name : (number : ℕ) (before : List Item) (o : Option ConfigLine) → HasNoneTwice (tile_names before) → says_fault number before o ≡ None → HasNoneTwice (tile_names before ++ cons_option (tile_in o) [])
-unfolding tile_in
 one_more_name number before None h k = as_before (tile_names before) h
 one_more_name number before (Some (DeviceLine name)) h k = as_before (tile_names before) h
 one_more_name number before (Some (HeadLine text)) h k = as_before (tile_names before) h

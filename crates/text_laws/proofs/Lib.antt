@@ -12,3 +12,4 @@ pub mod ConfigPrinted
 pub mod PrintedParts
 pub mod ConfigOrder
 pub mod SameAgain
+pub mod NoFaults

@@ -4,7 +4,7 @@
 
 ghost use Rattle.config_grammar.specs.ConfigLines.{is_return, says, words_in, ConfigLine, OutsideLine};
 ghost use Rattle.config_grammar.specs.ConfigPrint.{config_text};
-ghost use Rattle.config_grammar.specs.ConfigText.{config_of, devices_of, items_of};
+ghost use Rattle.config_grammar.specs.ConfigText.{config_of, configuration_of, devices_of, items_of};
 ghost use Rattle.config_grammar.specs.Sections.{heads_of, sections_of};
 ghost use Rattle.fabric.specs.Device.{Device};
 ghost use Rattle.formed_laws.specs.Readers.{IsReadSide};
@@ -73,4 +73,10 @@ pub fn read_config_is_in_order()
 /// without lines.
 pub fn printed_config_says_the_same()
     ensures { (c : Config) → IsReadConfig c → SameButLines c (config_of c.device (items_of (config_text c))) }
+{}
+
+/// The text of a configuration that is read is read again, without a fault and as the same configuration but for the numbers
+/// of lines and sections without lines.
+pub fn printed_config_is_read()
+    ensures { (c : Config) → IsReadConfig c → (d : Config) × ((configuration_of (config_text c) ≡ Ok d) × SameButLines c d) }
 {}
