@@ -26,7 +26,7 @@ use Rattle.design_checks.specs.DesignChecks.{OutputsMissing, none, GraphRefused,
 use Rattle.circuit_laws.proofs.Sound.{Sound}
 use Rattle.formed_laws.specs.Readers.{IsReadProfile, IsReadSide}
 use Rattle.formed_laws.specs.Designs.{IsReadDesign}
-use Rattle.formed_laws.proofs.Formed.{entries_in_domain, mux_bits_masked_there}
+use Rattle.formed_laws.proofs.Formed.{read_entries, read_mux_bits_masked}
 use Rattle.check_laws.specs.Accepted.{FeedsAreModelled, IsSound}
 use Rattle.check_laws.proofs.Passing.{first_passes, second_passes}
 use Rattle.check_laws.proofs.RoutingRules as routing
@@ -135,7 +135,7 @@ module _ (design : Design) (g : Graph) (cells : Cells) (profile : IsReadProfile 
 
   triplicated : IsTriplicated c
   triplicated = record {
-    entries = entries_in_domain design.device k read;
+    entries = read_entries design.device k read;
     open_pins = ignored;
     clocks = pins.clocks c ok (first_passes (ClocksAsData c) Clocked data_passes) (first_passes (RegistersUnclocked c) Own clocked_passes);
     own = pins.own c ok (first_passes (PinsForeign c) Masked own_passes);
@@ -156,4 +156,4 @@ module _ (files : Files) (inputs : Inputs) (design : Design) (g : Graph) (cells 
 
   pub accepted_masked : IsSafe (configured_as design g cells) → (f : Fault) → IsMuxFault (configured_as design g cells) f
       → ((d : Domain) × RightOutside (circuit_of (configured_as design g cells)) f d) × TwoAreRight (circuit_of (configured_as design g cells)) f
-  accepted_masked = mux_bits_masked_there design.device (configured_as design g cells) accepted_sound.read accepted_sound.clean accepted_sound.triplicated
+  accepted_masked = read_mux_bits_masked design.device (configured_as design g cells) accepted_sound.read accepted_sound.clean accepted_sound.triplicated

@@ -34,7 +34,7 @@ use Rattle.design_checks.specs.MaskChecks.{TablesFail, fails}
 use Rattle.design_checks.specs.CopyChecks.{part_in, Gives, output, unread, TablesDiffer, Field, InSet, InData, InEnable, InReset, InClock, AlikeIn, DifferIn, in_tables, in_registers, in_outputs, CopiesUnlike, unlike}
 use Rattle.design_checks.specs.DesignChecks.{OutputsMissing, none, GraphRefused, TextRefused, CircuitRefused, configured_as, CellsRefused, in_circuit, DesignRefused}
 use Rattle.circuit_laws.proofs.Sound.{Sound}
-use Rattle.formed_laws.proofs.Formed.{well_formed}
+use Rattle.formed_laws.proofs.Formed.{read_well_formed}
 use Rattle.formed_laws.proofs.Placed.{of_slices}
 use Rattle.formed_laws.proofs.Results.{same_value}
 use Rattle.cells_laws.proofs.Faults.{accepted_none, cells_accepted}
@@ -223,7 +223,7 @@ module _ (design : Design) (g : Graph) (cells : Cells) (sound : IsSound design.d
   cells_pass : Passes (CellsRefused design g)
   cells_pass r (in_circuit others there h) =
       let same : others ≡ cells = same_value others cells (cells_of g design.device.profile image design.side) there sound.read.cells in
-      circuit_passes (circuit_of k) sound.triplicated (record { clean = sound.clean; formed = well_formed design.device k sound.read }) g sound.modelled r
+      circuit_passes (circuit_of k) sound.triplicated (record { clean = sound.clean; formed = read_well_formed design.device k sound.read }) g sound.modelled r
       (subst (λ (x : Cells). CircuitRefused g (circuit_of (configured_as design g x)) r) same h)
 
   pub sound_passes : Passes (DesignRefused design g)

@@ -22,7 +22,7 @@ use Rattle.design_checks.specs.DesignChecks.{GraphRefused, TextRefused, configur
 use Rattle.circuit_laws.proofs.Sound.{Sound}
 use Rattle.formed_laws.specs.Readers.{IsReadProfile, IsReadSide}
 use Rattle.formed_laws.specs.Designs.{IsReadDesign}
-use Rattle.formed_laws.proofs.Formed.{well_formed}
+use Rattle.formed_laws.proofs.Formed.{read_well_formed}
 use Rattle.check_laws.proofs.Passing.{first_passes, second_passes}
 use Rattle.check_laws.proofs.RoutingRules as routing
 use Rattle.check_laws.proofs.Overlaps.{no_overlap}
@@ -57,4 +57,4 @@ module _ (design : Design) (g : Graph) (cells : Cells) (profile : IsReadProfile 
   clean = routing.clean design.device g is image (first_passes (AreContested g image) (Computed (cell_refusal g design.device.profile image design.side)) behind_arcs)
 
   pub ok : Sound (circuit_of k)
-  ok = record { clean = clean; formed = well_formed design.device k read }
+  ok = record { clean = clean; formed = read_well_formed design.device k read }
