@@ -3,7 +3,7 @@ use Rattle.std.proofs.Common.{◌≡◌, ℕ, List, ◌++◌, refl, sym, ap, sub
 use Rattle.std.specs.Prelude.{find, unwrap_or}
 use Rattle.words.specs.Members.{In}
 use Rattle.links.specs.Links.{Feeds, Fed}
-use Rattle.records.specs.Side.{Domain, Triple, Side}
+use Rattle.records.specs.Side.{Domain, Side}
 use Rattle.circuit.specs.Cells.{PadCell}
 use Rattle.circuit.specs.Parts.{Pad, PartRef, Source, sources, output_pads}
 use Rattle.circuit.specs.Pins.{PinRef, Pin, pad_pin, pins}
@@ -108,6 +108,7 @@ module _ {c e : Circuit} (al : Alike c e) where
       let same : b.0 ≡ u = part_same e.cells al.also.formed.names b.0 u b.1.0.source j (ap (λ z. z.part) b.1.1 ∙ sym h) in
       record { listed = j; read = (q.0, subst (λ z. Connects e z q.0) same b.1.0) }
 
+  -- voters are listed under the same names
   pub voter_cross : (s u : PartRef) → u ≡ s → IsVoter c s → IsVoter e u
   voter_cross s u h v = (
     v.0,
@@ -118,8 +119,9 @@ module _ {c e : Circuit} (al : Alike c e) where
     ),
   )
 
-  pub lies_cross : (t : Triple) (name : List ℕ) (d : Domain) → LiesIn c.cells name d → LiesIn e.cells name d
-  lies_cross t name d i = lies_along c.cells e.cells al.same.parts name d i
+  -- cells of one name lie in one domain
+  pub lies_cross : (name : List ℕ) (d : Domain) → LiesIn c.cells name d → LiesIn e.cells name d
+  lies_cross name d i = lies_along c.cells e.cells al.same.parts name d i
 
   -- an output pad and the one of its name
   pub twin_out : (p : PadCell) → In (output_pads c.cells) p → (q : PadCell) × (In (output_pads e.cells) q × ((q.name ≡ p.name) × ((q.domain ≡ p.domain) × ((pad_pin q).ref ≡ (pad_pin p).ref))))

@@ -37,13 +37,13 @@ module _ (job : Job) (sound : IsSoundJob job) (y : Layout) (k : KeepsDesign job 
   written_sound = record { clean = k.ready.clean; formed = k.formed }
 
   -- the circuit is one of the design, and triplicated too
-  same : SameDesign (read_of job) written
+  pub same : SameDesign (read_of job) written
   same = record { sides = k.side; parts = k.parts; connections = λ x. (each x, k.none_new x) }
 
   alike : Alike (read_of job) written
   alike = record { sound = read_sound; also = written_sound; modelled = sound.modelled; also_modelled = k.modelled; same = same }
 
-  also_triplicated : IsTriplicated written
+  pub also_triplicated : IsTriplicated written
   also_triplicated = triplicated alike sound.triplicated
 
   -- a flip of a routing-mux bit of a safe image has one domain at most
@@ -61,6 +61,14 @@ module _ (job : Job) (sound : IsSoundJob job) (y : Layout) (k : KeepsDesign job 
 
   pub kept_hardens : Hardens (configured job.design) (configured y)
   kept_hardens = record { side = k.side; outputs = gives; masked = masked }
+
+-- the circuit of what is written
+module _ (job : Job) (sound : IsSoundJob job) (log : List Event) (y : Layout) (n : ℕ) (a : IsAnswer job (Ended log (Routed y n))) where
+  pub written_same : SameDesign (read_of job) (circuit_of (configured y))
+  written_same = (let r = answer_keeps job sound log y n a in same job sound y r.0 r.1)
+
+  pub written_triplicated : IsTriplicated (circuit_of (configured y))
+  written_triplicated = (let r = answer_keeps job sound log y n a in also_triplicated job sound y r.0 r.1)
 
 pub hardened_design_keeps_outputs : (job : Job) → IsSoundJob job → (log : List Event) (y : Layout) (n : ℕ) → IsAnswer job (Ended log (Routed y n)) → Hardens (configured job.design) (configured y)
 hardened_design_keeps_outputs job sound log y n a = (let r = answer_keeps job sound log y n a in kept_hardens job sound y r.0 r.1)

@@ -94,27 +94,27 @@ module _ {c e : Circuit} (al : Alike c e) where
   takes_along : (s u a b : PartRef) (n : ℕ) (x y v w : Input) → a ≡ s → b ≡ u → input_shape v ≡ input_shape x → input_shape w ≡ input_shape y
       → ((p : Pin) → In (input_pin a n v) p → In (pins e.cells) p) → ((p : Pin) → In (input_pin b n w) p → In (pins e.cells) p)
       → TakesAlike c s u n x y → TakesAlike e a b n v w
-  takes_along s u a b n (InputWire k) (InputWire l) v w f g h i there where_ alike =
+  takes_along s u a b n (InputWire k) (InputWire l) v w f g h i there there_too alike =
       let m = is_wire v h in
       let o = is_wire w i in
       subst (λ z. TakesAlike e a b n z w) (sym m.1) (subst (λ z. TakesAlike e a b n (InputWire m.0) z) (sym o.1)
       (fed_alike (pin_at s n k) (pin_at u n l) (pin_at a n m.0) (pin_at b n o.0) alike
       (there (pin_at a n m.0) (subst (λ z. In (input_pin a n z) (pin_at a n m.0)) (sym m.1) (inl refl)))
-      (where_ (pin_at b n o.0) (subst (λ z. In (input_pin b n z) (pin_at b n o.0)) (sym o.1) (inl refl)))
+      (there_too (pin_at b n o.0) (subst (λ z. In (input_pin b n z) (pin_at b n o.0)) (sym o.1) (inl refl)))
       (at_number a s n f) (at_number b u n g)))
-  takes_along s u a b n (InputNotWire k) (InputNotWire l) v w f g h i there where_ alike =
+  takes_along s u a b n (InputNotWire k) (InputNotWire l) v w f g h i there there_too alike =
       let m = is_not_wire v h in
       let o = is_not_wire w i in
       subst (λ z. TakesAlike e a b n z w) (sym m.1) (subst (λ z. TakesAlike e a b n (InputNotWire m.0) z) (sym o.1)
       (fed_alike (pin_at s n k) (pin_at u n l) (pin_at a n m.0) (pin_at b n o.0) alike
       (there (pin_at a n m.0) (subst (λ z. In (input_pin a n z) (pin_at a n m.0)) (sym m.1) (inl refl)))
-      (where_ (pin_at b n o.0) (subst (λ z. In (input_pin b n z) (pin_at b n o.0)) (sym o.1) (inl refl)))
+      (there_too (pin_at b n o.0) (subst (λ z. In (input_pin b n z) (pin_at b n o.0)) (sym o.1) (inl refl)))
       (at_number a s n f) (at_number b u n g)))
-  takes_along s u a b n InputZero InputZero v w f g h i there where_ alike =
+  takes_along s u a b n InputZero InputZero v w f g h i there there_too alike =
       subst (λ z. TakesAlike e a b n z w) (sym (is_zero v h)) (subst (λ z. TakesAlike e a b n InputZero z) (sym (is_zero w i)) tt)
-  takes_along s u a b n InputOne InputOne v w f g h i there where_ alike =
+  takes_along s u a b n InputOne InputOne v w f g h i there there_too alike =
       subst (λ z. TakesAlike e a b n z w) (sym (is_one v h)) (subst (λ z. TakesAlike e a b n InputOne z) (sym (is_one w i)) tt)
-  takes_along s u a b n _ _ v w f g h i there where_ alike = absurd alike
+  takes_along s u a b n _ _ v w f g h i there there_too alike = absurd alike
 
 module _ {c e : Circuit} (al : Alike c e) (tc : IsTriplicated c) where
   abbrev ba : Alike e c
@@ -122,9 +122,9 @@ module _ {c e : Circuit} (al : Alike c e) (tc : IsTriplicated c) where
 
   entries : EntriesInDomain e
   entries = record {
-    first = λ t i. lies_cross al t t.first D0 (tc.entries.first t (back t i));
-    second = λ t i. lies_cross al t t.second D1 (tc.entries.second t (back t i));
-    third = λ t i. lies_cross al t t.third D2 (tc.entries.third t (back t i));
+    first = λ t i. lies_cross al t.first D0 (tc.entries.first t (back t i));
+    second = λ t i. lies_cross al t.second D1 (tc.entries.second t (back t i));
+    third = λ t i. lies_cross al t.third D2 (tc.entries.third t (back t i));
   }
     where
       back : (t : Triple) → In (all_triples e.side) t → In (all_triples c.side) t

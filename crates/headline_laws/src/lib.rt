@@ -4,7 +4,7 @@
 
 ghost use Rattle.attempts.specs.Attempts.{after_step, Attempt, Ended, Event, IsAnswer, Routed};
 ghost use Rattle.attempts.specs.Candidates.{IsCandidate, Step};
-ghost use Rattle.attempts.specs.Jobs.{Job, State};
+ghost use Rattle.attempts.specs.Jobs.{Job, read_of, State};
 ghost use Rattle.attempts.specs.Starts.{IsStart};
 ghost use Rattle.attempts.specs.Turns.{Complete, Cut};
 ghost use Rattle.circuit.specs.Circuits.{Circuit};
@@ -18,6 +18,7 @@ ghost use Rattle.headline_laws.specs.Sound.{IsSoundJob};
 ghost use Rattle.links.specs.Links.{IsClean};
 ghost use Rattle.repair.specs.Layouts.{configured, Layout};
 ghost use Rattle.std.specs.Prelude.{List, ℕ};
+ghost use Rattle.upset.specs.Configured.{circuit_of};
 ghost use Rattle.upset.specs.Safe.{IsSafe};
 
 /// Of two circuits of one design whose pins named cells alone feed, both are triplicated where one is.
@@ -47,6 +48,14 @@ pub fn step_keeps()
 pub fn answer_keeps()
     ensures { (job : Job) → IsSoundJob job → (log : List Event) (y : Layout) (n : ℕ) → IsAnswer job (Ended log (Routed y n))
         → KeepsDesign job y × HasEachConnection job y }
+{}
+
+/// So its circuit is one of the design that was read, and triplicated.
+pub fn written_circuit_is_of_the_design()
+    ensures same { (job : Job) → IsSoundJob job → (log : List Event) (y : Layout) (n : ℕ) → IsAnswer job (Ended log (Routed y n))
+        → SameDesign (read_of job) (circuit_of (configured y)) }
+    ensures triplicated { (job : Job) → IsSoundJob job → (log : List Event) (y : Layout) (n : ℕ) → IsAnswer job (Ended log (Routed y n))
+        → IsTriplicated (circuit_of (configured y)) }
 {}
 
 /// The main law. Where the attempts of a router end with all connections routed, what is written hardens what was read:
