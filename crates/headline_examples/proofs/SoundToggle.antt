@@ -28,7 +28,7 @@ use Rattle.repair.specs.Layouts.{configured}
 use Rattle.attempts.specs.Attempts.{AttemptComplete}
 use Rattle.attempt_laws.proofs.SafeDesign.{safe_design_stays}
 use Rattle.attempt_examples.specs.SafeToggle.{toggle_job}
-use Rattle.headline_laws.specs.Modelled.{FeedsAreModelled}
+use Rattle.check_laws.specs.Accepted.{FeedsAreModelled}
 use Rattle.headline_laws.specs.Sound.{IsSoundJob}
 use Rattle.headline_laws.proofs.Hardened.{hardened_design_keeps_outputs}
 
