@@ -1,7 +1,7 @@
 -- The text of a configuration that is read has no fault.
-use Rattle.std.proofs.Common.{◌≡◌, ◌<◌, ◌≤◌, ◌+◌, ℕ, suc, Bool, true, false, not, inl, inr, ◌⊎◌, List, [], ◌∷◌, ◌++◌, length, map, filter, filter_map, flat_map, Option, Some, None, cond, refl, sym, ap, ap₂, subst, ◌∙◌, arith, append_assoc, append-nil, length-append}
-use Rattle.std.specs.Prelude.{Result, Ok, nat_lt}
-use Rattle.std.specs.List.{cons_option, list_any}
+use Rattle.std.proofs.Common.{◌≡◌, ◌<◌, ◌≤◌, ◌+◌, ℕ, suc, Bool, true, false, not, inl, inr, List, [], ◌∷◌, ◌++◌, length, map, flat_map, Option, Some, None, cond, refl, sym, ap, subst, ◌∙◌, arith, append_assoc, append-nil, length-append}
+use Rattle.std.specs.Prelude.{Ok, nat_lt}
+use Rattle.std.specs.List.{cons_option}
 use Rattle.std.specs.Str.{bytes_eq}
 use Rattle.std.proofs.lemmas.Bool.{lt-ltb, ltb-true}
 use Rattle.std.proofs.lemmas.List.{length-map}
@@ -22,7 +22,7 @@ use Rattle.fabric_laws.proofs.Members.{any_from}
 use Rattle.config_grammar.specs.ConfigLines.{ConfigLine, DeviceLine, HeadLine, TileLine, ArcOf, WordOf, EnumOf, UnknownOf, OutsideLine}
 use Rattle.config_grammar.specs.ConfigPrint.{config_text}
 use Rattle.config_grammar.specs.Sections.{Item, sections_of, device_in}
-use Rattle.config_grammar.specs.ConfigText.{ConfigFault, BadLine, TooLarge, items_of, devices_of, has_tile, bad_if, is_none_yet, most_sections, tile_fault, says_fault, item_fault, section_in_order, config_of, with_device, unless_fault, configuration_of}
+use Rattle.config_grammar.specs.ConfigText.{BadLine, TooLarge, items_of, devices_of, has_tile, bad_if, is_none_yet, most_sections, tile_fault, says_fault, item_fault, section_in_order, config_of, with_device, unless_fault, configuration_of}
 use Rattle.records.specs.Limits.{Tiles}
 use Rattle.formed_laws.specs.Twice.{HasNoneTwice}
 use Rattle.text_laws.specs.Printed.{said_in, section_says, said_by, IsReadConfig}
@@ -99,9 +99,9 @@ right (l ∷ ls) before (i ∷ is) e h =
     let said : i.says ≡ Some l = cc in
     let later : map (λ i. i.says) is ≡ map (λ l. Some l) ls = cc in
     let devices : devices_of (before ++ i ∷ []) ≡ devices_of before ++ cons_option (device_in (Some l)) [] =
-        filter_map-append (λ (i : Item). device_in i.says) before (i ∷ []) ∙ ap (λ o. devices_of before ++ cons_option (device_in o) []) said in
+    filter_map-append (λ (i : Item). device_in i.says) before (i ∷ []) ∙ ap (λ o. devices_of before ++ cons_option (device_in o) []) said in
     let names : tile_names (before ++ i ∷ []) ≡ tile_names before ++ cons_option (tile_in (Some l)) [] =
-        filter_map-append (λ (i : Item). tile_in i.says) before (i ∷ []) ∙ ap (λ o. tile_names before ++ cons_option (tile_in o) []) said in
+    filter_map-append (λ (i : Item). tile_in i.says) before (i ∷ []) ∙ ap (λ o. tile_names before ++ cons_option (tile_in o) []) said in
     none_or (item_fault before i) (first_fault_after item_fault (before ++ i ∷ []) is) (ap (says_fault i.number before) said ∙ right_here i.number before l ls h)
     (right ls (before ++ i ∷ []) is later
     (subst (λ d. RightAfter d (tile_names (before ++ i ∷ [])) ls) (sym devices)
@@ -123,7 +123,7 @@ section_right t ds ns ls some r =
     let e = mapped_right (λ (e : EnumLine). EnumOf e.name e.value) (λ x ds ns ls s k. (s, k)) t.enums ds ns (map (λ u. UnknownOf u.frame u.bit) t.unknowns ++ ls) some u in
     let w = mapped_right (λ (w : WordLine). WordOf w.name w.bits) (λ x ds ns ls s k. (s, k)) t.words ds ns (map (λ e. EnumOf e.name e.value) t.enums ++ (map (λ u. UnknownOf u.frame u.bit) t.unknowns ++ ls)) some e in
     let a = mapped_right (λ (a : ArcLine). ArcOf a.sink a.source) (λ x ds ns ls s k. (s, k)) t.arcs ds ns
-        (map (λ w. WordOf w.name w.bits) t.words ++ (map (λ e. EnumOf e.name e.value) t.enums ++ (map (λ u. UnknownOf u.frame u.bit) t.unknowns ++ ls))) some w in
+    (map (λ w. WordOf w.name w.bits) t.words ++ (map (λ e. EnumOf e.name e.value) t.enums ++ (map (λ u. UnknownOf u.frame u.bit) t.unknowns ++ ls))) some w in
     subst (RightAfter ds ns)
     (sym (split_lines (map (λ (a : ArcLine). ArcOf a.sink a.source) t.arcs) (map (λ (w : WordLine). WordOf w.name w.bits) t.words) (map (λ (e : EnumLine). EnumOf e.name e.value) t.enums)
     (map (λ (u : UnknownLine). UnknownOf u.frame u.bit) t.unknowns) ls)) a
@@ -222,8 +222,7 @@ pub printed_read : (c : Config) → IsReadConfig c → (d : Config) × ((configu
 printed_read c read =
     let items = items_of (config_text c) in
     let once = rising_once (map (λ (t : TileText). t.tile) c.tiles) (read_in_order c read).tiles in
-    let no_faults : first_fault item_fault items ≡ None = right (said_by c) [] items (printed_says c read) (config_right c once (read_few c read)) in
-    (
+    let no_faults : first_fault item_fault items ≡ None = right (said_by c) [] items (printed_says c read) (config_right c once (read_few c read)) in (
       config_of c.device items,
       (ap (λ f. unless_fault f (with_device items (devices_of items))) no_faults ∙ ap (with_device items) (its_device_is c read), same_again c read),
     )
