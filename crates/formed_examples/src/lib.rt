@@ -10,7 +10,6 @@ ghost use Rattle.circuit.specs.Right.{RightOutside, TwoAreRight};
 ghost use Rattle.circuit.specs.Triplicated.{IsTriplicated};
 ghost use Rattle.fabric_laws.specs.PlainGraph.{graph_of};
 ghost use Rattle.formed_examples.specs.Databases.{clock_db_text, pad_db_text, slice_db_text};
-ghost use Rattle.formed_examples.specs.Moves.{to_fourth};
 ghost use Rattle.formed_examples.specs.Texts.{profile_text, side_text};
 ghost use Rattle.formed_laws.specs.Designs.{IsReadDesign};
 ghost use Rattle.formed_laws.specs.Readers.{IsReadGrid};
