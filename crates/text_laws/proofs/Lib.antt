@@ -1,5 +1,4 @@
 pub mod Pushed
-pub mod DatabaseRead
 pub mod LineFeed
 pub mod ReadBack
 pub mod SideForms

@@ -1,4 +1,3 @@
-pub mod DatabaseRead
 pub mod Printed
 pub mod SameButLines
 pub mod ConfigOrder

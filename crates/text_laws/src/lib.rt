@@ -1,33 +1,23 @@
-//! Laws of what is read and printed: no name stands twice in what is read, and what is printed is read again. There is no
-//! code but laws, each the contract of a function with an empty body.
+//! Laws of what is printed: it is read again as it was. There is no code but laws, each the contract of a function with an
+//! empty body.
 #![tactic(auto)]
 
 ghost use Rattle.config_grammar.specs.ConfigLines.{is_return, says, words_in, ConfigLine, OutsideLine};
 ghost use Rattle.config_grammar.specs.ConfigPrint.{config_text};
 ghost use Rattle.config_grammar.specs.ConfigText.{config_of, configuration_of, devices_of, items_of};
 ghost use Rattle.config_grammar.specs.Sections.{heads_of, sections_of};
-ghost use Rattle.fabric.specs.Device.{Device};
 ghost use Rattle.formed_laws.specs.Readers.{IsReadSide};
-ghost use Rattle.layout_laws.specs.Named.{NamesOnce};
 ghost use Rattle.records.specs.Config.{Config};
-ghost use Rattle.records.specs.Database.{TileDb};
 ghost use Rattle.records.specs.Side.{Side};
 ghost use Rattle.side_form.specs.Side.{side_of};
 ghost use Rattle.side_form.specs.SidePrint.{side_text};
 ghost use Rattle.std.specs.Prelude.{[], false, filter, map, true, List, Ok, Some, ℕ, ◌≡◌, ◌∷◌};
 ghost use Rattle.std.specs.List.{list_any};
 ghost use Rattle.text_laws.specs.ConfigOrder.{IsInOrder};
-ghost use Rattle.text_laws.specs.DatabaseRead.{HasNamesOnce, HasReadFiles, IsReadDatabase};
 ghost use Rattle.text_laws.specs.SameButLines.{has_lines, unnumbered, SameButLines};
 ghost use Rattle.text_laws.specs.Printed.{lined, printed_line, said_by, AreOneLine, IsReadConfig};
 ghost use Rattle.texts.specs.Lines.{lines_of, Line};
 ghost use Rattle.texts.specs.Parts.{no_line_feed};
-
-/// In a database that is read nothing is named twice, and so it is in a device whose grid and databases are read.
-pub fn read_database_has_names_once()
-    ensures database { (db : TileDb) → IsReadDatabase db → HasNamesOnce db }
-    ensures device { (device : Device) → HasReadFiles device → NamesOnce device }
-{}
 
 /// A side file that is read, printed and read again is the same.
 pub fn printed_side_is_read()
