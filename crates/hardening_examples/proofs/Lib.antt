@@ -1,0 +1,2 @@
+pub mod CrossedMeets
+pub mod Hardened
