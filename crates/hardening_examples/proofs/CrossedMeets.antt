@@ -52,7 +52,7 @@ modelled_by : (c : Circuit) → list_all (λ p. list_all (is_modelled c p) c.rou
 modelled_by c h p o i f =
     let told = all_from (is_modelled c p) c.routing.outputs (all_from (λ q. list_all (is_modelled c q) c.routing.outputs) (pins c.cells) h p i) o f.output in
     let s = any_in (λ (z : Source). eqb z.out o) (sources c.cells) (imp_from (has (below c.routing.links o) p.wire) (list_any (λ z. eqb z.out o) (sources c.cells)) told
-        (has_in (below c.routing.links o) p.wire (below_complete c.routing.links f.reach))) in
+    (has_in (below c.routing.links o) p.wire (below_complete c.routing.links f.reach))) in
     (s.0, (s.1.0, number_is s.0.out o s.1.1))
 
 pub crossed_modelled : FeedsAreModelled circuit

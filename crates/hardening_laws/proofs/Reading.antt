@@ -10,11 +10,11 @@ use Rattle.records.specs.Config.{Config}
 use Rattle.grammars.specs.BitsDb as db
 use Rattle.json_forms.specs.Grid.{grid_of}
 use Rattle.json_forms.specs.Results.{◌>>=◌}
-use Rattle.fabric.specs.Device.{TypeDb, Device}
+use Rattle.fabric.specs.Device.{TypeDb}
 use Rattle.answers.specs.Refusals.{Refusal, TooLong}
 use Rattle.commands.specs.Commands.{Inputs}
 use Rattle.design_files.specs.Names.{most_config_bytes, most_json_bytes, most_database_bytes, grid_name, database_name, types_of}
-use Rattle.design_files.specs.Parsed.{Files, or_refused, if_short, parsed, form_refusal, database_refusal, read_config, read_grid, read_profile, read_side, read_database}
+use Rattle.design_files.specs.Parsed.{Files, or_refused, parsed, form_refusal, database_refusal, read_config, read_grid, read_profile, read_side, read_database}
 use Rattle.design_files.specs.Designs.{Design, no_records, database_in, databases_in, design_of}
 use Rattle.formed_laws.specs.Readers.{IsReadGrid, IsReadProfile}
 use Rattle.formed_laws.proofs.Results.{both}
