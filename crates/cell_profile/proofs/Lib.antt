@@ -1,3 +1,4 @@
 pub mod Elements
 pub mod KindNames
+pub mod KindShapes
 pub mod Refused

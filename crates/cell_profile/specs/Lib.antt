@@ -1,3 +1,4 @@
 pub mod Takes
 pub mod Faults
 pub mod Elements
+pub mod Known

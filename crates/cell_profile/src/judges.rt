@@ -1,12 +1,16 @@
 //! How an element of a list stands behind those before it.
 
-ghost use Rattle.std.specs.Prelude.{◌≡◌, List};
-ghost use Rattle.json_forms.specs.Profile.{Verdict as VerdictSpec, any_form, slice_verdict, pad_verdict};
+ghost use Rattle.std.specs.Prelude.{◌≡◌, ◌∷◌, ◌++◌, [], List, map, IfOk, OnOk};
+ghost use Rattle.json_forms.specs.KindRules.{slice_name, pad_name};
+ghost use Rattle.json_forms.specs.Profile.{Verdict as VerdictSpec, Fits, any_form, slice_verdict, pad_verdict};
 ghost use Rattle.cell_profile.specs.Elements.{verdict_of};
+ghost use Rattle.cell_profile.specs.Known.{KnowsNames, KnowsShapes};
 
-use crate::rules::{pad_keeps_rules, parts_fit, slice_keeps_rules};
+use crate::known::{KindNames, Shapes, add_name, fits_shape, names_of_slices};
+use crate::rules::{pad_stands, parts_fit, slice_stands};
 use crate::{PadKind, SliceKind};
 use rr_ids::{Limit, Name};
+use std::alloc::{AllocError, Global};
 
 /// How an element stands behind those before it.
 #[derive(Clone, Copy, Debug)]
@@ -16,14 +20,20 @@ pub(crate) enum Verdict {
     Exceeds(Limit),
 }
 
-/// What judges the elements of a list.
+/// What judges the elements of a list, and keeps what it has to know of them.
 pub(crate) trait Judge<T> {
     /// The verdict on an element behind others.
     ghost verdict: { Self → List T → T → VerdictSpec };
 
-    /// The verdict on an element behind others.
-    fn judge(&self, earlier: &[T], element: &T) -> Verdict
-        ensures { verdict_of result ≡ verdict self.now earlier.now element.now };
+    /// What it knows is that of these elements.
+    ghost Knows: { Self → List T → Type 0 };
+
+    /// The verdict on an element behind others, which is known from then on if it fits.
+    fn judge(&mut self, earlier: &[T], element: &T) -> Result<Verdict, AllocError>
+        requires { Knows self.old earlier.now }
+        ensures verdict { IfOk result (λ it. verdict_of it ≡ verdict self.old earlier.now element.now) }
+        ensures knows { IfOk result (λ it. verdict_of it ≡ Fits → Knows self.new (earlier.now ++ element.now ∷ [])) }
+        ensures same { OnOk result (verdict self.new ≡ verdict self.old) };
 }
 
 /// Takes each element.
@@ -33,46 +43,100 @@ pub(crate) struct AnyForm;
 impl<T> Judge<T> for AnyForm {
     ghost verdict = { λ _. any_form };
 
-    fn judge(&self, _earlier: &[T], _element: &T) -> Verdict {
-        Verdict::Fits
+    ghost Knows = { λ _ _. Unit {0} };
+
+    fn judge(&mut self, _earlier: &[T], _element: &T) -> Result<Verdict, AllocError> {
+        Ok(Verdict::Fits)
     }
 }
 
-/// The rules of slice kinds.
-#[derive(Clone, Copy, Debug)]
+/// The rules of slice kinds. The names and shapes are those of the kinds judged so far.
+#[derive(Drop)]
 pub(crate) struct SliceJudge<'a> {
-    pub other_chips: &'a [Name],
+    alloc: Global,
+    other_chips: &'a [Name],
+    names: KindNames,
+    shapes: Shapes,
+}
+
+impl<'a> SliceJudge<'a> {
+    /// No kind was judged yet.
+    pub(crate) fn new(alloc: Global, other_chips: &'a [Name]) -> SliceJudge<'a>
+        ensures other_chips { result.other_chips ≡ other_chips.entry }
+        ensures names { KnowsNames result.names [] }
+        ensures shapes { KnowsShapes result.shapes [] }
+    {
+        SliceJudge {
+            alloc,
+            other_chips,
+            names: KindNames::new(alloc),
+            shapes: Shapes::new(alloc),
+        }
+    }
 }
 
 impl<'a> Judge<SliceKind> for SliceJudge<'a> {
     ghost verdict = { λ it. slice_verdict it.other_chips.now };
 
-    fn judge(&self, earlier: &[SliceKind], element: &SliceKind) -> Verdict {
-        if !slice_keeps_rules(self.other_chips, earlier, element) {
-            return Verdict::Misfits;
+    ghost Knows = { λ it earlier. KnowsNames it.names (map slice_name earlier) × KnowsShapes it.shapes earlier };
+
+    fn judge(
+        &mut self,
+        _earlier: &[SliceKind],
+        element: &SliceKind,
+    ) -> Result<Verdict, AllocError> {
+        if !slice_stands(self.other_chips, element)
+            || !add_name(&mut self.names, &element.tile, &element.name)?
+            || !fits_shape(self.alloc, &mut self.shapes, element)?
+        {
+            return Ok(Verdict::Misfits);
         }
         if !parts_fit(element) {
-            return Verdict::Exceeds(Limit::Parts);
+            return Ok(Verdict::Exceeds(Limit::Parts));
         }
-        Verdict::Fits
+        Ok(Verdict::Fits)
     }
 }
 
-/// The rules of pad kinds.
-#[derive(Clone, Copy, Debug)]
+/// The rules of pad kinds, which stand behind slice kinds. The names are those of the slice kinds, and of the pad kinds
+/// judged so far.
+#[derive(Drop)]
 pub(crate) struct PadJudge<'a> {
-    pub other_chips: &'a [Name],
-    pub slices: &'a [SliceKind],
+    other_chips: &'a [Name],
+    slices: &'a [SliceKind],
+    names: KindNames,
+}
+
+impl<'a> PadJudge<'a> {
+    /// No pad kind was judged yet.
+    pub(crate) fn new(
+        alloc: Global,
+        other_chips: &'a [Name],
+        slices: &'a [SliceKind],
+    ) -> Result<PadJudge<'a>, AllocError>
+        ensures other_chips { IfOk result (λ it. it.other_chips ≡ other_chips.entry) }
+        ensures slices { IfOk result (λ it. it.slices ≡ slices.entry) }
+        ensures names { IfOk result (λ it. KnowsNames it.names (map slice_name slices.now ++ [])) }
+    {
+        Ok(PadJudge {
+            other_chips,
+            slices,
+            names: names_of_slices(alloc, slices)?,
+        })
+    }
 }
 
 impl<'a> Judge<PadKind> for PadJudge<'a> {
     ghost verdict = { λ it. pad_verdict it.other_chips.now it.slices.now };
 
-    fn judge(&self, earlier: &[PadKind], element: &PadKind) -> Verdict {
-        if pad_keeps_rules(self.other_chips, self.slices, earlier, element) {
-            Verdict::Fits
-        } else {
-            Verdict::Misfits
+    ghost Knows = { λ it earlier. KnowsNames it.names (map slice_name it.slices.now ++ map pad_name earlier) };
+
+    fn judge(&mut self, _earlier: &[PadKind], element: &PadKind) -> Result<Verdict, AllocError> {
+        if !pad_stands(self.other_chips, element)
+            || !add_name(&mut self.names, &element.tile, &element.name)?
+        {
+            return Ok(Verdict::Misfits);
         }
+        Ok(Verdict::Fits)
     }
 }

@@ -5,6 +5,7 @@ mod choices;
 mod errors;
 mod judges;
 mod kinds;
+mod known;
 mod members;
 mod profile;
 mod rules;

@@ -1,6 +1,6 @@
 //! The members of a profile that are lists, read element by element.
 
-ghost use Rattle.std.specs.Prelude.{◌≡◌, map, IfOk, IfSome};
+ghost use Rattle.std.specs.Prelude.{◌≡◌, ◌∷◌, ◌++◌, [], map, IfOk, OnOk, IfSome};
 ghost use Rattle.serde_json.specs.View.{view};
 ghost use Rattle.words.specs.OrMemory.{OrMemory};
 ghost use Rattle.json_forms.specs.Values.{member_in, list_in};
@@ -39,19 +39,22 @@ fn bad_element(alloc: Global, name: &str, number: usize) -> ProfileError
 fn read_element<T: FromJson, J: Judge<T>>(
     alloc: Global,
     name: &str,
-    judge: &J,
+    judge: &mut J,
     earlier: &List<T>,
     value: &Value,
 ) -> Result<T, ProfileError>
-    ensures { OrMemory (λ it. it) fault_of result
-        (element_read name.now T.value_in (J.verdict judge.now) earlier.now (view value.now)) }
+    requires { J.Knows judge.old earlier.now }
+    ensures read { OrMemory (λ it. it) fault_of result
+        (element_read name.now T.value_in (J.verdict judge.old) earlier.now (view value.now)) }
+    ensures knows { IfOk result (λ it. J.Knows judge.new (earlier.now ++ it ∷ [])) }
+    ensures same { OnOk result (J.verdict judge.new ≡ J.verdict judge.old) }
 {
     let element = match T::from_json(alloc, value) {
         Ok(element) => element,
         Err(FormError::Unfit) => return Err(bad_element(alloc, name, earlier.len())),
         Err(FormError::Memory) => return Err(ProfileError::Memory),
     };
-    match judge.judge(earlier.as_slice(), &element) {
+    match judge.judge(earlier.as_slice(), &element)? {
         Verdict::Fits => Ok(element),
         Verdict::Misfits => Err(bad_element(alloc, name, earlier.len())),
         Verdict::Exceeds(limit) => Err(ProfileError::TooLarge(limit)),
@@ -62,11 +65,12 @@ fn read_element<T: FromJson, J: Judge<T>>(
 fn read_elements<T: FromJson, J: Judge<T>>(
     alloc: Global,
     name: &str,
-    judge: &J,
+    judge: &mut J,
     values: &[Value],
 ) -> Result<List<T>, ProfileError>
+    requires { J.Knows judge.old [] }
     ensures { OrMemory (λ it. it) fault_of result
-        (elements_read name.now T.value_in (J.verdict judge.now) (map view values.now)) }
+        (elements_read name.now T.value_in (J.verdict judge.old) (map view values.now)) }
 {
     let mut list = List::new(alloc);
     for value in values {
@@ -88,10 +92,11 @@ pub(crate) fn read_list<T: FromJson, J: Judge<T>>(
     alloc: Global,
     file: &Value,
     name: &str,
-    judge: &J,
+    judge: &mut J,
 ) -> Result<List<T>, ProfileError>
+    requires { J.Knows judge.old [] }
     ensures { OrMemory (λ it. it) fault_of result
-        (list_read name.now T.value_in (J.verdict judge.now) (view file.now)) }
+        (list_read name.now T.value_in (J.verdict judge.old) (view file.now)) }
 {
     match list_member(file, name) {
         Ok(values) => read_elements::<T, J>(alloc, name, judge, values),

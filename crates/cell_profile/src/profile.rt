@@ -64,7 +64,8 @@ fn names(alloc: Global, file: &Value, member: &str) -> Result<List<Name>, Profil
     ensures { OrMemory (λ names. names) fault_of result
         (list_read member.now name_in any_form (view file.now)) }
 {
-    read_list::<Name, AnyForm>(alloc, file, member, &AnyForm)
+    let mut judge = AnyForm;
+    read_list::<Name, AnyForm>(alloc, file, member, &mut judge)
 }
 
 // The connections that are always there.
@@ -72,7 +73,8 @@ fn joins(alloc: Global, file: &Value) -> Result<List<Join>, ProfileError>
     ensures { OrMemory (λ joins. joins) fault_of result
         (list_read (codes "joins") join_in any_form (view file.now)) }
 {
-    read_list::<Join, AnyForm>(alloc, file, "joins", &AnyForm)
+    let mut judge = AnyForm;
+    read_list::<Join, AnyForm>(alloc, file, "joins", &mut judge)
 }
 
 // The kinds of slices.
@@ -84,7 +86,8 @@ fn slices(
     ensures { OrMemory (λ kinds. kinds) fault_of result
         (list_read (codes "slices") slice_in (slice_verdict other_chips.now) (view file.now)) }
 {
-    read_list::<SliceKind, SliceJudge>(alloc, file, "slices", &SliceJudge { other_chips })
+    let mut judge = SliceJudge::new(alloc, other_chips);
+    read_list::<SliceKind, SliceJudge>(alloc, file, "slices", &mut judge)
 }
 
 // The kinds of pads, which stand behind those of slices.
@@ -97,11 +100,8 @@ fn pads(
     ensures { OrMemory (λ kinds. kinds) fault_of result
         (list_read (codes "pads") pad_in (pad_verdict other_chips.now slices.now) (view file.now)) }
 {
-    let judge = PadJudge {
-        other_chips,
-        slices,
-    };
-    read_list::<PadKind, PadJudge>(alloc, file, "pads", &judge)
+    let mut judge = PadJudge::new(alloc, other_chips, slices)?;
+    read_list::<PadKind, PadJudge>(alloc, file, "pads", &mut judge)
 }
 
 // The profile that an object is.

@@ -1,9 +1,8 @@
 //! The rules that kinds keep, beside their forms.
 
-ghost use Rattle.std.specs.Prelude.{◌≡◌, ◌++◌, true, map, length, find, nat_eq};
-ghost use Rattle.std.specs.Option.{option_copied, option_map_or};
+ghost use Rattle.std.specs.Prelude.{◌≡◌, ◌&&◌, true, nat_eq};
+ghost use Rattle.std.specs.Option.{option_map_or};
 ghost use Rattle.std.specs.List.{list_all, list_any, starts_with};
-ghost use Rattle.std.specs.Cmp.Lexicographic.{pointwise};
 ghost use Rattle.std.specs.Set.{is_member};
 ghost use Rattle.std.specs.Str.{bytes_eq};
 ghost use Rattle.json_forms.specs.KindRules as rules;
@@ -172,95 +171,14 @@ fn wire_is_own(other_chips: &[Name], wire: &Option<Name>) -> bool
     }
 }
 
-// Kinds that stand before
-
-// Whether a slice kind has this tile type and name.
-fn is_slice(kinds: &[SliceKind], tile: &Name, name: &Name) -> bool
-    ensures { result ≡ is_member rules.same_kind (map rules.slice_name kinds.now) (tile.now, name.now) }
-{
-    kinds
-        .iter()
-        .any(|kind| *tile == kind.tile && *name == kind.name)
-}
-
-// Whether a pad kind has this tile type and name.
-fn is_pad(kinds: &[PadKind], tile: &Name, name: &Name) -> bool
-    ensures { result ≡ is_member rules.same_kind (map rules.pad_name kinds.now) (tile.now, name.now) }
-{
-    kinds
-        .iter()
-        .any(|kind| *tile == kind.tile && *name == kind.name)
-}
-
-// Whether a kind has this tile type and name.
-#[tactic(auto, using(crate::proofs::KindNames::member_of_either))]
-fn is_kind(slices: &[SliceKind], pads: &[PadKind], tile: &Name, name: &Name) -> bool
-    ensures { result ≡ is_member rules.same_kind
-        (map rules.slice_name slices.now ++ map rules.pad_name pads.now) (tile.now, name.now) }
-{
-    is_slice(slices, tile, name) || is_pad(pads, tile, name)
-}
-
-// Whether tables have as many pins as others, each in turn.
-fn same_pin_counts(tables: &[TableKind], others: &[TableKind]) -> bool
-    ensures { result ≡ pointwise nat_eq (map (λ table. length table.pins) tables.now)
-        (map (λ table. length table.pins) others.now) }
-{
-    let mut rest = tables;
-    let mut other_rest = others;
-    while let [table, behind @ ..] = rest {
-        let [other, other_behind @ ..] = other_rest else {
-            return false;
-        };
-        if table.pins.len() != other.pins.len() {
-            return false;
-        }
-        rest = behind;
-        other_rest = other_behind;
-    }
-    other_rest.is_empty()
-}
-
-fn same_counts(first: &SliceKind, kind: &SliceKind) -> bool
-    ensures { result ≡ rules.same_counts first.now kind.now }
-{
-    first.settings.len() == kind.settings.len()
-        && same_pin_counts(first.tables.as_slice(), kind.tables.as_slice())
-        && first.registers.len() == kind.registers.len()
-}
-
-// The first kind of a shape.
-fn first_of_shape<'a>(kinds: &'a [SliceKind], shape: &Name) -> Option<&'a SliceKind>
-    ensures { option_copied result ≡ find (λ kind. bytes_eq shape.now kind.shape) kinds.now }
-{
-    kinds.iter().find(|kind| *shape == kind.shape)
-}
-
-// Whether a kind has the counts of the first kind of its shape.
-fn has_counts_of_shape(earlier: &[SliceKind], kind: &SliceKind) -> bool
-    ensures { result ≡ rules.has_counts_of_shape earlier.now kind.now }
-{
-    match first_of_shape(earlier, &kind.shape) {
-        Some(first) => same_counts(first, kind),
-        None => true,
-    }
-}
-
 // Slices and pads
 
-/// Whether a slice kind keeps the rules behind others: its settings and wires, a new name, and the counts of its
-/// shape.
-pub(crate) fn slice_keeps_rules(
-    other_chips: &[Name],
-    earlier: &[SliceKind],
-    kind: &SliceKind,
-) -> bool
-    ensures { result ≡ rules.slice_keeps_rules other_chips.now earlier.now kind.now }
+/// Whether a slice kind keeps the rules that look at no other kind: its settings and wires.
+pub(crate) fn slice_stands(other_chips: &[Name], kind: &SliceKind) -> bool
+    ensures { result ≡ (rules.slice_settings_pass (is_member bytes_eq kind.now.settings) kind.now
+        && rules.slice_wires_pass (rules.is_own_wire other_chips.now) kind.now) }
 {
-    slice_settings_stand(kind)
-        && slice_wires_are_own(other_chips, kind)
-        && !is_slice(earlier, &kind.tile, &kind.name)
-        && has_counts_of_shape(earlier, kind)
+    slice_settings_stand(kind) && slice_wires_are_own(other_chips, kind)
 }
 
 // The most tables, and the most registers, of a slice kind.
@@ -293,19 +211,13 @@ fn has_wires_of_modes(kind: &PadKind) -> bool
     (!takes_in(cases) || kind.in_wire.is_some()) && (!takes_out(cases) || kind.out_wire.is_some())
 }
 
-/// Whether a pad kind keeps the rules behind other kinds: its setting and wires, the wires of its modes, and a new
-/// name.
-pub(crate) fn pad_keeps_rules(
-    other_chips: &[Name],
-    slices: &[SliceKind],
-    earlier: &[PadKind],
-    kind: &PadKind,
-) -> bool
-    ensures { result ≡ rules.pad_keeps_rules other_chips.now
-        (map rules.slice_name slices.now ++ map rules.pad_name earlier.now) kind.now }
+/// Whether a pad kind keeps the rules that look at no other kind: its setting and wires, and the wires of its modes.
+pub(crate) fn pad_stands(other_chips: &[Name], kind: &PadKind) -> bool
+    ensures { result ≡ (rules.choice_setting_passes (is_member bytes_eq kind.now.settings) kind.now.mode
+        && rules.pad_wires_pass (rules.is_own_wire other_chips.now) kind.now
+        && rules.has_wires_of_modes kind.now) }
 {
     choice_setting_stands(kind.settings.as_slice(), &kind.mode)
         && pad_wires_are_own(other_chips, kind)
         && has_wires_of_modes(kind)
-        && !is_kind(slices, earlier, &kind.tile, &kind.name)
 }
