@@ -339,3 +339,50 @@ fn a_kind_has_8_tables_at_most(rt: HostRuntime) -> Result<(), Fail> {
     }
     Ok(())
 }
+
+// Slice kinds, each with a name and a shape of its own, and what may stand behind them.
+fn many_slices(alloc: Global, count: usize, more: &str) -> Result<String, AllocError> {
+    let mut text = String::new(alloc);
+    text.push_str(
+        r#"{"chip_prefix": "", "other_chips": [], "wide": [], "joins": [], "pads": [], "slices": ["#,
+    )?;
+    for number in 0..count {
+        let kind = format!(in alloc;
+            r#"{{"tile": "T", "name": "S{number}", "shape": "L{number}", "settings": [], "require": [], "tables": [], "registers": []}},"#
+        )?;
+        text.push_str(kind.as_str())?;
+    }
+    text.push_str(more)?;
+    text.push_str("]}")?;
+    Ok(text)
+}
+
+static MORE_SLICES: [(&'static str, &'static str); 3] = [
+    (
+        r#"{"tile": "T", "name": "S", "shape": "L7", "settings": [], "require": [], "tables": [], "registers": []}"#,
+        "none",
+    ),
+    (
+        r#"{"tile": "T", "name": "S7", "shape": "L", "settings": [], "require": [], "tables": [], "registers": []}"#,
+        "slices.2000",
+    ),
+    (
+        r#"{"tile": "T", "name": "S", "shape": "L7", "settings": ["K"], "require": [], "tables": [], "registers": []}"#,
+        "slices.2000",
+    ),
+];
+
+fn more_slices() -> &'static [(&'static str, &'static str)] {
+    &MORE_SLICES
+}
+
+#[test]
+fn many_kinds_are_read(rt: HostRuntime) -> Result<(), Fail> {
+    let alloc = rt.alloc();
+    for &(more, wanted) in more_slices() {
+        let text = many_slices(alloc, 2000, more)?;
+        let answer = read(alloc, text.as_bytes());
+        assert!(rt; fault_name(&answer) == wanted.as_bytes(), "{more}");
+    }
+    Ok(())
+}
