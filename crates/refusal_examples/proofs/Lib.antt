@@ -1,0 +1,6 @@
+pub mod Tests
+pub mod Routings
+pub mod Arcs
+pub mod Parts
+pub mod Circuits
+pub mod Masking

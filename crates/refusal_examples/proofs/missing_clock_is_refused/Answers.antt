@@ -1,0 +1,52 @@
+use Rattle.std.proofs.Common.{◌≡◌, inl, inr, refl, sym, subst, [], ◌∷◌, codes}
+use Rattle.records.specs.Side.{D0}
+use Rattle.circuit.specs.Parts.{Source, Table, Register}
+use Rattle.circuit.specs.Pins.{Pin, pin_at}
+use Rattle.circuit.specs.Triplicated.{ReadPart, FedByClock}
+use Rattle.circuit_laws.proofs.Sound.{to_pin}
+use Rattle.circuit_examples.proofs.Tests.{in_at}
+use Rattle.circuit_examples.proofs.Feeding.{feeds_is}
+use Rattle.circuit_examples.proofs.Rules.{dry}
+use Rattle.circuit.specs.Parts.{register_source, sources}
+use Rattle.circuit.specs.Cells.{InputWire, InputZero, InputOne, RegisterCell}
+use Rattle.std.specs.Prelude.{false}
+use Rattle.mini.specs.ToggleCells.{slice_at, wire_at}
+use Rattle.design_checks.specs.PinChecks.{IsUnclocked, unclocked}
+use Rattle.refusal_examples.proofs.Circuits.{g, unclocked_circuit, unclocked_sound}
+use Rattle.refusal_examples.proofs.Parts.{least_unclocked}
+use Rattle.refusal_examples.proofs.missing_clock_is_refused.Goals as goal
+
+abbrev cell : RegisterCell
+cell = record { input = InputWire (wire_at g 1 1 (codes "F")); enable = InputOne; reset = InputZero; set = false; clock = InputWire (wire_at g 1 1 (codes "CK")); out = wire_at g 1 1 (codes "Q") }
+
+abbrev register : Source
+register = register_source (slice_at g (codes "a0") D0 1) 0 cell
+
+-- pin B of a0 reads its register
+abbrev reader : Pin
+reader = pin_at (record { cell = codes "a0"; part = Table 0 }) 1 (wire_at g 1 1 (codes "B"))
+
+abbrev clock : Pin
+clock = pin_at register.part 3 (wire_at g 1 1 (codes "CK"))
+
+is_read : ReadPart unclocked_circuit register
+is_read = record {
+  listed = inr (inl refl);
+  read = (reader, to_pin unclocked_circuit register reader (inr (inl refl)) (feeds_is unclocked_circuit unclocked_sound.formed.outputs.listed register reader.wire (inr (inl refl)) refl));
+}
+
+is_unclocked : IsUnclocked unclocked_circuit register.part
+is_unclocked = record {
+  source = register;
+  register = cell;
+  is = refl;
+  read = is_read;
+  is_register = refl;
+  unclocked = λ p i f. elim i [
+    | inl e ↦ dry unclocked_circuit unclocked_sound clock refl (subst (FedByClock unclocked_circuit) (sym e) f)
+    | inr j ↦ absurd j
+  ];
+}
+
+pub returns : goal.returns
+returns c = record { cells = refl; refused = unclocked register.part (least_unclocked unclocked_circuit register.part is_unclocked refl) }

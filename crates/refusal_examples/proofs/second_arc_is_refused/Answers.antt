@@ -1,0 +1,51 @@
+use Rattle.std.proofs.Common.{◌≡◌, ◌≢◌, ℕ, inl, refl, sym, codes, eq-eqb}
+use Rattle.std.proofs.lemmas.Bool.{false≢true}
+use Rattle.links.specs.Links.{Routing, Counting}
+use Rattle.records.specs.Config.{Config}
+use Rattle.fabric.specs.Graph.{Graph}
+use Rattle.fabric.specs.Image.{image_of}
+use Rattle.fabric.specs.Links.{routing_of}
+use Rattle.fabric.specs.Wires.{Local}
+use Rattle.fabric_laws.specs.PlainGraph.{graph_of}
+use Rattle.mini.specs.MiniA.{mini_a}
+use Rattle.mini.specs.Toggle.{crossed, line}
+use Rattle.mini.specs.ToggleCells.{wire_at}
+use Rattle.fabric_examples.proofs.Tests.{counting}
+use Rattle.design_checks.specs.RoutingChecks.{contested}
+use Rattle.refusal_examples.specs.Changed.{with_arc}
+use Rattle.refusal_examples.proofs.Routings.{least_contested, two_least}
+use Rattle.refusal_examples.proofs.second_arc_is_refused.Goals as goal
+
+abbrev g : Graph
+g = graph_of mini_a
+
+abbrev config : Config
+config = with_arc (codes "R1C3:MLC") (line (codes "A") (codes "H0")) crossed
+
+abbrev routing : Routing
+routing = routing_of g (image_of g config)
+
+abbrev pin : ℕ
+pin = wire_at g 1 3 (codes "A")
+
+abbrev first : ℕ
+first = wire_at g 1 3 (codes "H0")
+
+abbrev second : ℕ
+second = wire_at g 1 3 (codes "H3")
+
+abbrev register : ℕ
+register = wire_at g 1 3 (codes "Q")
+
+from_first : Counting routing first pin
+from_first = counting routing register first pin refl refl
+
+from_second : Counting routing second pin
+from_second = counting routing register second pin refl refl
+
+different : second ≢ first
+different e = false≢true (eq-eqb second first e)
+
+pub returns : goal.returns
+returns c = contested pin first second _ _ _ (least_contested routing pin (inl (first, (second, (from_first, (from_second, λ e. different (sym e)))))) refl)
+    (two_least routing pin refl first second from_first from_second different refl refl) refl refl refl

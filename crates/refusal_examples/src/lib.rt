@@ -1,0 +1,49 @@
+//! Designs that a check refuses, each the contract of a function with an empty body.
+#![tactic(auto)]
+
+ghost use Rattle.answers.specs.Refusals.{ArcDiffers, Contested, NotClocked, NotMasking, OpenPin};
+ghost use Rattle.cells.specs.CellsOf.{cells_of};
+ghost use Rattle.circuit.specs.Parts.{Register, Table};
+ghost use Rattle.design_checks.specs.CopyChecks.{part_in};
+ghost use Rattle.design_checks.specs.MaskChecks.{TablesFail};
+ghost use Rattle.design_checks.specs.PinChecks.{PinsOpen, RegistersUnclocked};
+ghost use Rattle.design_checks.specs.RoutingChecks.{ArcsDiffer, AreContested};
+ghost use Rattle.fabric.specs.Image.{image_of};
+ghost use Rattle.fabric.specs.Wires.{Local};
+ghost use Rattle.fabric_examples.specs.Faulty.{stray_bit};
+ghost use Rattle.fabric_laws.specs.PlainGraph.{graph_of};
+ghost use Rattle.mini.specs.MiniA.{mini_a};
+ghost use Rattle.mini.specs.Toggle.{crossed, line, toggle_side};
+ghost use Rattle.mini.specs.ToggleCells.{toggle_cells};
+ghost use Rattle.refusal_examples.specs.Changed.{with_arc};
+ghost use Rattle.refusal_examples.specs.Refused.{cells_with_word, circuit_with, reading_d, unclocked, unmasked};
+ghost use Rattle.std.specs.Prelude.{codes, pos, Ok, ◌≡◌};
+
+/// A set bit that makes an arc without a line.
+pub fn stray_bit_is_refused()
+    ensures { let g = graph_of mini_a in ArcsDiffer g (image_of g stray_bit) stray_bit (ArcDiffers (codes "R1C1:MLC") (codes "H5")) }
+{}
+
+/// A pin with a second arc.
+pub fn second_arc_is_refused()
+    ensures { let g = graph_of mini_a in let config = with_arc (codes "R1C3:MLC") (line (codes "A") (codes "H0")) crossed in
+        AreContested g (image_of g config) (Contested (Local (pos 1) (pos 3) (codes "A")) (Local (pos 1) (pos 3) (codes "H0")) (Local (pos 1) (pos 3) (codes "H3"))) }
+{}
+
+/// A word that doesn't mask copy 1: from all ones its pin falls, which gives address 3.
+pub fn unmasked_copy_is_refused()
+    ensures cells { let g = graph_of mini_a in cells_of g mini_a.profile (image_of g unmasked) toggle_side ≡ Ok (cells_with_word g 0x1F1F) }
+    ensures refused { let g = graph_of mini_a in TablesFail (circuit_with g unmasked (cells_with_word g 0x1F1F)) (NotMasking (part_in (codes "a0") (Table 0)) 3) }
+{}
+
+/// A word that reads a pin without a feed.
+pub fn open_pin_is_refused()
+    ensures cells { let g = graph_of mini_a in cells_of g mini_a.profile (image_of g reading_d) toggle_side ≡ Ok (cells_with_word g 0x9717) }
+    ensures refused { let g = graph_of mini_a in PinsOpen (circuit_with g reading_d (cells_with_word g 0x9717)) (OpenPin (record { part = part_in (codes "a0") (Table 0); pin = 3 })) }
+{}
+
+/// A register without a clock.
+pub fn missing_clock_is_refused()
+    ensures cells { let g = graph_of mini_a in cells_of g mini_a.profile (image_of g unclocked) toggle_side ≡ Ok (toggle_cells g) }
+    ensures refused { let g = graph_of mini_a in RegistersUnclocked (circuit_with g unclocked (toggle_cells g)) (NotClocked (part_in (codes "a0") (Register 0))) }
+{}
