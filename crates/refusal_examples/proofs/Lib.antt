@@ -4,3 +4,5 @@ pub mod Arcs
 pub mod Parts
 pub mod Circuits
 pub mod Masking
+pub mod BadBits
+pub mod Loops

@@ -1,12 +1,13 @@
 //! Designs that a check refuses, each the contract of a function with an empty body.
 #![tactic(auto)]
 
-ghost use Rattle.answers.specs.Refusals.{ArcDiffers, Contested, NotClocked, NotMasking, OpenPin};
+ghost use Rattle.answers.specs.Refusals.{ArcDiffers, Contested, Loop, NotClocked, NotMasking, OpenPin, UnnamedSource};
 ghost use Rattle.cells.specs.CellsOf.{cells_of};
 ghost use Rattle.circuit.specs.Parts.{Register, Table};
+ghost use Rattle.design_answers.specs.BadBits.{AreBadPlaces};
 ghost use Rattle.design_checks.specs.CopyChecks.{part_in};
 ghost use Rattle.design_checks.specs.MaskChecks.{TablesFail};
-ghost use Rattle.design_checks.specs.PinChecks.{PinsOpen, RegistersUnclocked};
+ghost use Rattle.design_checks.specs.PinChecks.{PinsOpen, RegistersUnclocked, SourceUnnamed, TablesLoop};
 ghost use Rattle.design_checks.specs.RoutingChecks.{ArcsDiffer, AreContested};
 ghost use Rattle.fabric.specs.Image.{image_of};
 ghost use Rattle.fabric.specs.Wires.{Local};
@@ -15,9 +16,14 @@ ghost use Rattle.fabric_laws.specs.PlainGraph.{graph_of};
 ghost use Rattle.mini.specs.MiniA.{mini_a};
 ghost use Rattle.mini.specs.Toggle.{crossed, line, toggle_side};
 ghost use Rattle.mini.specs.ToggleCells.{toggle_cells};
+ghost use Rattle.mini_b.specs.MiniB.{mini_b};
+ghost use Rattle.records.specs.Side.{D0, D2};
 ghost use Rattle.refusal_examples.specs.Changed.{with_arc};
+ghost use Rattle.refusal_examples.specs.CorridorRefused.{looped_circuit, unnamed_circuit};
 ghost use Rattle.refusal_examples.specs.Refused.{cells_with_word, circuit_with, reading_d, unclocked, unmasked};
-ghost use Rattle.std.specs.Prelude.{codes, pos, Ok, ◌≡◌};
+ghost use Rattle.reports.specs.Reports.{AtWire};
+ghost use Rattle.std.specs.Prelude.{codes, pos, Ok, [], ◌∷◌, ◌≡◌};
+ghost use Rattle.upset_examples.specs.Circuits.{with_toggle};
 
 /// A set bit that makes an arc without a line.
 pub fn stray_bit_is_refused()
@@ -46,4 +52,21 @@ pub fn open_pin_is_refused()
 pub fn missing_clock_is_refused()
     ensures cells { let g = graph_of mini_a in cells_of g mini_a.profile (image_of g unclocked) toggle_side ≡ Ok (toggle_cells g) }
     ensures refused { let g = graph_of mini_a in RegistersUnclocked (circuit_with g unclocked (toggle_cells g)) (NotClocked (part_in (codes "a0") (Register 0))) }
+{}
+
+/// The crossed toggle has one bad bit, which joins copies 0 and 2: one is disturbed from the first slice on, the other in
+/// the third alone.
+pub fn crossed_has_one_bad_bit()
+    ensures { AreBadPlaces (with_toggle (graph_of mini_a) crossed) (record { bit = record { frame = 52; bit = 11 }; first = D0; first_at = AtWire (Local (pos 1) (pos 1) (codes "H4"));
+        second = D2; second_at = AtWire (Local (pos 1) (pos 3) (codes "H3")) } ∷ []) }
+{}
+
+/// A table that reads itself over a track.
+pub fn loop_is_refused()
+    ensures { TablesLoop (looped_circuit (graph_of mini_b)) (Loop (part_in (codes "w0") (Table 0))) }
+{}
+
+/// A pin that a slice without a name feeds.
+pub fn unnamed_source_is_refused()
+    ensures { let g = graph_of mini_b in SourceUnnamed g (unnamed_circuit g) (UnnamedSource (record { part = part_in (codes "w0") (Table 0); pin = 0 }) (Local (pos 1) (pos 1) (codes "F"))) }
 {}
