@@ -1,5 +1,5 @@
 -- A test of what the check of the arcs refuses.
-use Rattle.std.proofs.Common.{◌≡◌, ◌≢◌, ℕ, Bool, true, false, not, List, Option, Some, None, option_map, option_and_then, ◌⊎◌, inl, inr, refl, sym, ap, subst, ◌∙◌, ◌&&◌, ◌||◌, eq-eqb}
+use Rattle.std.proofs.Common.{◌≡◌, Bool, true, false, not, Option, Some, None, option_map, option_and_then, inl, inr, refl, sym, ap, subst, ◌∙◌, ◌&&◌, ◌||◌, eq-eqb}
 use Rattle.std.specs.Prelude.{◌==◌, slice_get}
 use Rattle.std.specs.List.{list_all, list_any}
 use Rattle.std.specs.Option.{option_map_or}
@@ -17,7 +17,7 @@ use Rattle.fabric.specs.Links.{is_chosen}
 use Rattle.fabric.specs.Agree.{HasLine}
 use Rattle.fabric_laws.specs.PlainAgree.{same_arc, has_line}
 use Rattle.fabric_laws.proofs.Members.{any_from, any_to, is_false}
-use Rattle.fabric_laws.proofs.Graphs.{some_same, arc_of, one_arc}
+use Rattle.fabric_laws.proofs.Graphs.{arc_of, one_arc}
 use Rattle.fabric_laws.proofs.Agreeing.{line_listed}
 use Rattle.cells_laws.proofs.Options.{mapped_to, then_to}
 use Rattle.design_checks.specs.Checks.{IsLeast}

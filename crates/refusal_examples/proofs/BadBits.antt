@@ -1,33 +1,32 @@
 -- The one bad bit of the crossed toggle, and where each of its two copies is disturbed.
-use Rattle.std.proofs.Common.{◌≡◌, ◌≢◌, ℕ, Bool, true, false, not, ◌⊎◌, inl, inr, List, [], ◌∷◌, ◌++◌, map, refl, sym, ap, subst, ◌∙◌, ◌&&◌, ◌||◌, codes}
+use Rattle.std.proofs.Common.{◌≡◌, ◌≢◌, ℕ, Bool, true, false, not, inl, inr, List, [], ◌∷◌, ◌++◌, map, refl, sym, subst, ◌∙◌, ◌&&◌, ◌||◌, codes}
 use Rattle.std.specs.List.{list_all, list_any}
 use Rattle.std.specs.declared.cmp.Ordering.TheVariants.{Greater}
 use Rattle.std.specs.Ordering.{nat_cmp}
 use Rattle.words.specs.Members.{In}
 use Rattle.patterns.specs.Bits.{DeviceBit, Bits, same_bit}
 use Rattle.records.specs.Side.{Domain, D0, D1, D2}
-use Rattle.links.specs.Links.{Routing, Reaches, here, onto, Counting, Below, Upstream}
+use Rattle.links.specs.Links.{Routing, here, onto, Counting, Below, Upstream}
 use Rattle.links.proofs.Walks.{reaches_on}
 use Rattle.links.proofs.Members.{in_left, in_right, in_map}
 use Rattle.links.proofs.Below.{below, below_complete, has, has_in, in_has}
 use Rattle.links.proofs.Feeds.{one_feed}
 use Rattle.fabric.specs.Graph.{Graph}
-use Rattle.fabric.specs.Links.{links_of, routing_of}
+use Rattle.fabric.specs.Links.{routing_of}
 use Rattle.fabric.specs.MuxBits.{mux_bits, is_mux_bit}
 use Rattle.fabric_laws.specs.PlainGraph.{graph_of}
-use Rattle.fabric_laws.proofs.Members.{any_from, any_to, all_from, imp_from}
+use Rattle.fabric_laws.proofs.Members.{any_from, all_from, imp_from}
 use Rattle.fabric_laws.proofs.Graphs.{has_graph}
-use Rattle.fabric_laws.proofs.SameBits.{same_is, same_refl}
+use Rattle.fabric_laws.proofs.SameBits.{same_is}
 use Rattle.fabric_examples.proofs.Tests.{counting}
 use Rattle.circuit.specs.Parts.{Source, sources}
 use Rattle.circuit.specs.Domains.{HasDomain}
-use Rattle.circuit_laws.proofs.Sound.{FeedsFrom, domain_is}
-use Rattle.circuit_examples.proofs.Tests.{implies, and_both, and_left, and_right, domain_eq, is_domain, any_at, no_false}
+use Rattle.circuit_examples.proofs.Tests.{implies, and_both, domain_eq, is_domain, any_at, no_false}
 use Rattle.circuit_examples.proofs.Feeding.{feeds, feeds_is, is_feeds}
 use Rattle.mini.specs.MiniA.{mini_a}
 use Rattle.mini.specs.ToggleCells.{wire_at}
 use Rattle.upset.specs.Configured.{Configured, circuit_of}
-use Rattle.upset.specs.Effect.{IsShortSource, BehindShort, IsDisturbed}
+use Rattle.upset.specs.Effect.{IsShortSource, IsDisturbed}
 use Rattle.upset.specs.Safe.{FlipsHave, IsBad, only}
 use Rattle.upset_laws.specs.PlainUpset.{hit_wires, short_sources, fed_wires, domains_of, two_domains, is_bad}
 use Rattle.upset_laws.proofs.PlainDomains.{hits_law, shorts_law, domains_listed, bad_law}

@@ -1,15 +1,17 @@
 -- The toggle with a fault has a clean routing and well-formed cells, and what feeds its pins.
-use Rattle.std.proofs.Common.{◌≡◌, ℕ, Bool, true, inl, inr, refl, codes}
-use Rattle.records.specs.Config.{Config}
-use Rattle.records.specs.Side.{D0, D1, D2}
+use Rattle.std.proofs.Common.{refl}
 use Rattle.fabric.specs.Graph.{Graph}
+use Rattle.fabric.specs.Image.{image_of}
 use Rattle.fabric_laws.specs.PlainGraph.{graph_of}
-use Rattle.fabric_examples.proofs.Tests.{drives_once, clean_once}
+use Rattle.fabric_laws.proofs.Graphs.{has_graph}
+use Rattle.fabric_laws.proofs.Agreeing.{agreeing}
+use Rattle.fabric_examples.proofs.Tests.{clean_once}
 use Rattle.mini.specs.MiniA.{mini_a}
-use Rattle.mini.specs.ToggleCells.{slice_at, toggle_cells, wire_at}
+use Rattle.mini.specs.ToggleCells.{toggle_cells}
 use Rattle.circuit.specs.Circuits.{Circuit}
 use Rattle.circuit_laws.proofs.Sound.{Sound}
 use Rattle.circuit_examples.proofs.Formed.{well_formed}
+use Rattle.refusal_examples.proofs.Whole.{TextPasses}
 use Rattle.refusal_examples.specs.Refused.{circuit_with, cells_with_word, unmasked, reading_d, unclocked}
 
 abbrev pub g : Graph
@@ -56,3 +58,12 @@ unclocked_sound = record {
     sizes = record { tables = refl; registers = refl; some_pins = refl; few_pins = refl };
   });
 }
+
+pub unmasked_text : TextPasses unmasked
+unmasked_text = record { lines = refl; agree = (agreeing mini_a g (has_graph mini_a) (image_of g unmasked) unmasked).0 refl; clean = unmasked_sound.clean; no_cell = refl }
+
+pub reading_text : TextPasses reading_d
+reading_text = record { lines = refl; agree = (agreeing mini_a g (has_graph mini_a) (image_of g reading_d) reading_d).0 refl; clean = reading_sound.clean; no_cell = refl }
+
+pub unclocked_text : TextPasses unclocked
+unclocked_text = record { lines = refl; agree = (agreeing mini_a g (has_graph mini_a) (image_of g unclocked) unclocked).0 refl; clean = unclocked_sound.clean; no_cell = refl }

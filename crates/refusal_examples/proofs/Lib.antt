@@ -6,3 +6,5 @@ pub mod Circuits
 pub mod Masking
 pub mod BadBits
 pub mod Loops
+pub mod Copies
+pub mod Whole

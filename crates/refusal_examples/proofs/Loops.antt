@@ -1,5 +1,5 @@
 -- Tests of what the checks of sources and of loops refuse.
-use Rattle.std.proofs.Common.{◌≡◌, ◌≢◌, ℕ, Bool, true, false, not, List, inl, inr, refl, sym, ap, subst, ◌∙◌, ◌&&◌, eqb}
+use Rattle.std.proofs.Common.{◌≡◌, ◌≢◌, ℕ, Bool, true, false, not, ap, ◌&&◌, eqb}
 use Rattle.std.specs.List.{list_all, list_any}
 use Rattle.words.specs.Members.{In}
 use Rattle.links.specs.Links.{Reaches, here, onto}
@@ -35,7 +35,7 @@ module _ (c : Circuit) where
   abbrev pub is_fed_unnamed : Pin → Bool
   is_fed_unnamed p = list_any (λ o. not (is_modelled o) && has (below c.routing.links o) p.wire) c.routing.outputs
 
-  unnamed_told : Told pin_cmp (λ ref. (x : ℕ) × IsFedUnnamed c ref x) (pins c.cells) (λ p. p.ref) is_fed_unnamed
+  pub unnamed_told : Told pin_cmp (λ ref. (x : ℕ) × IsFedUnnamed c ref x) (pins c.cells) (λ p. p.ref) is_fed_unnamed
   unnamed_told ref h = let f = h.1 in
       (f.pin, (f.listed, (f.is, any_at (λ o. not (is_modelled o) && has (below c.routing.links o) f.pin.wire) c.routing.outputs h.0 f.feeds.output
       (and_both (not (is_modelled h.0)) (has (below c.routing.links h.0) f.pin.wire) (modelled_not h.0 f.unnamed) (has_in (below c.routing.links h.0) f.pin.wire (below_complete c.routing.links f.feeds.reach))))))
@@ -50,13 +50,15 @@ module _ (c : Circuit) where
   is_table (OfTable t) = true
   is_table _ = false
 
+  -- a table that reads a table
   abbrev pub reads_table : Source → Bool
-  reads_table s = list_any (λ p. list_any (λ a. is_table a.kind && feeds c a p.wire) (sources c.cells)) (bit_pins s)
+  reads_table s = is_table s.kind && list_any (λ p. list_any (λ a. is_table a.kind && feeds c a p.wire) (sources c.cells)) (bit_pins s)
 
   read_by : (b s : Source) → is_table b.kind ≡ true → Reads c b s → reads_table s ≡ true
   read_by b s kind rd =
-      any_at (λ (p : Pin). list_any (λ a. is_table a.kind && feeds c a p.wire) (sources c.cells)) (bit_pins s) rd.pin (table_bit s rd.table rd.is_table rd.pin rd.takes)
-      (any_at (λ (a : Source). is_table a.kind && feeds c a rd.pin.wire) (sources c.cells) b rd.connects.source (and_both (is_table b.kind) (feeds c b rd.pin.wire) kind (is_feeds c b rd.pin.wire (at_pin c b rd.pin rd.connects))))
+      and_both (is_table s.kind) (list_any (λ p. list_any (λ a. is_table a.kind && feeds c a p.wire) (sources c.cells)) (bit_pins s)) (ap is_table rd.is_table)
+      (any_at (λ (p : Pin). list_any (λ a. is_table a.kind && feeds c a p.wire) (sources c.cells)) (bit_pins s) rd.pin (table_bit s rd.table rd.is_table rd.pin rd.takes)
+      (any_at (λ (a : Source). is_table a.kind && feeds c a rd.pin.wire) (sources c.cells) b rd.connects.source (and_both (is_table b.kind) (feeds c b rd.pin.wire) kind (is_feeds c b rd.pin.wire (at_pin c b rd.pin rd.connects)))))
 
   table_at : (u n : Source) → Reads c u n → {s : Source} → Reaches (Reads c) n s → is_table s.kind ≡ true
   table_at u n rd here = ap is_table rd.is_table
@@ -67,7 +69,7 @@ module _ (c : Circuit) where
   loop_reads u n rd back here = read_by u n (table_at u n rd back) rd
   loop_reads u n rd back (onto {b} q last) = read_by b _ (table_at u n rd q) last
 
-  loop_told : Told part_cmp (IsOnLoop c) (sources c.cells) (λ s. s.part) reads_table
+  pub loop_told : Told part_cmp (IsOnLoop c) (sources c.cells) (λ s. s.part) reads_table
   loop_told part h = (h.source, (h.reads.connects.source, (h.is, loop_reads h.source h.next h.reads h.back h.back)))
 
   pub least_on_loop : (part : PartRef) → IsOnLoop c part → list_all (λ s. implies (reads_table s) (not (is_after (part_cmp part s.part)))) (sources c.cells) ≡ true → IsLeast part_cmp (IsOnLoop c) part

@@ -6,12 +6,12 @@ use Rattle.std.specs.declared.cmp.Ordering.TheVariants.{Greater}
 use Rattle.std.specs.Ordering.{nat_cmp}
 use Rattle.words.specs.Members.{In}
 use Rattle.links.specs.Links.{Fed}
-use Rattle.records.specs.Side.{Domain, D0, D1, D2, Triple}
-use Rattle.circuit.specs.Cells.{SliceCell, TableCell, InputWire, InputZero, InputOne, RegisterCell}
+use Rattle.records.specs.Side.{Domain, D0, D1, D2}
+use Rattle.circuit.specs.Cells.{TableCell, InputWire, InputZero, InputOne}
 use Rattle.circuit.specs.Parts.{Register, OfTable, Source, table_source, register_source}
 use Rattle.circuit.specs.Pins.{Pin, pin_at, table_pins}
 use Rattle.circuit.specs.Triples.{PartTriple, triple_of}
-use Rattle.circuit.specs.Circuits.{Circuit, Connects}
+use Rattle.circuit.specs.Circuits.{Connects}
 use Rattle.circuit.specs.Domains.{HasDomain}
 use Rattle.circuit.specs.Worlds.{address, word_bit, table_output}
 use Rattle.circuit.specs.Tables.{Assigned, SameBut}

@@ -1,15 +1,13 @@
 -- Tests of what the checks of pins and parts refuse.
-use Rattle.std.proofs.Common.{◌≡◌, ◌≢◌, ℕ, Bool, true, false, not, List, [], ◌++◌, map, ◌⊎◌, inl, inr, refl, sym, ap, subst, ◌∙◌, ◌&&◌, ◌||◌}
+use Rattle.std.proofs.Common.{◌≡◌, ℕ, Bool, true, false, not, List, ◌++◌, map, refl, ap}
 use Rattle.std.specs.List.{list_all, flat_map}
 use Rattle.words.specs.Members.{In}
 use Rattle.links.specs.Links.{Fed}
 use Rattle.links.proofs.Members.{in_left, in_right, in_map, in_flat_map}
 use Rattle.fabric_laws.proofs.Members.{is_false}
-use Rattle.circuit.specs.Cells.{PadCell, RegisterCell}
-use Rattle.circuit.specs.Parts.{PartRef, Kind, OfTable, OfRegister, OfInput, OfClock, Source, sources, output_pads}
+use Rattle.circuit.specs.Parts.{PartRef, Kind, OfRegister, Source, sources, output_pads}
 use Rattle.circuit.specs.Pins.{PinRef, Pin, bit_pins, pad_pin}
 use Rattle.circuit.specs.Circuits.{Circuit}
-use Rattle.circuit.specs.Triplicated.{ReadPart}
 use Rattle.attempts.specs.PinOrder.{part_cmp, pin_cmp}
 use Rattle.design_checks.specs.Checks.{IsLeast}
 use Rattle.design_checks.specs.PinChecks.{IsOpen, of_part, of_pad, IsUnclocked}

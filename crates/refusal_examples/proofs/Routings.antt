@@ -1,14 +1,13 @@
 -- Tests of what the checks of a routing refuse.
-use Rattle.std.proofs.Common.{◌≡◌, ◌≢◌, ℕ, Bool, true, false, not, List, ◌⊎◌, inl, inr, refl, sym, ap, subst, ◌∙◌, ◌&&◌, ◌||◌, eqb}
+use Rattle.std.proofs.Common.{◌≡◌, ◌≢◌, ℕ, Bool, true, false, not, inl, inr, refl, sym, ◌&&◌, ◌||◌, eqb}
 use Rattle.std.specs.List.{list_all, list_any}
 use Rattle.std.specs.Ordering.{nat_cmp}
-use Rattle.words.specs.Members.{In}
 use Rattle.links.specs.Links.{Link, Routing, Counting}
 use Rattle.links.proofs.Below.{has, has_in}
 use Rattle.design_checks.specs.Checks.{IsLeast}
 use Rattle.design_checks.specs.RoutingChecks.{IsContested, Asserts, AssertsBeside, AreTwoLeast, two}
-use Rattle.circuit_examples.proofs.Tests.{and_both, is_number, number_is, any_at, clash, implies, implied, all_in}
-use Rattle.refusal_examples.proofs.Tests.{is_after, not_after, Told, least_by}
+use Rattle.circuit_examples.proofs.Tests.{and_both, is_number, number_is, any_at, clash, implies}
+use Rattle.refusal_examples.proofs.Tests.{is_after, Told, least_by}
 
 unequal : (m n : ℕ) → m ≢ n → not (eqb m n) ≡ true
 unequal m n h = at (eqb m n) refl

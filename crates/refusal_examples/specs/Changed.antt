@@ -1,6 +1,6 @@
 -- A text with an arc line more or less, or with another word.
 use Rattle.std.specs.Prelude.{ℕ, Bool, List, ◌∷◌, map, filter, not, reverse, ◌==◌, bytes_eq, if◌then◌else◌}
-use Rattle.records.specs.Config.{ArcLine, WordLine, TileText, Config}
+use Rattle.records.specs.Config.{ArcLine, TileText, Config}
 
 -- a text whose section of a tile is changed
 abbrev pub in_section : List ℕ → (TileText → TileText) → Config → Config

@@ -1,11 +1,12 @@
 //! Designs that a check refuses, each the contract of a function with an empty body.
 #![tactic(auto)]
 
-ghost use Rattle.answers.specs.Refusals.{ArcDiffers, Contested, Loop, NotClocked, NotMasking, OpenPin, UnnamedSource};
+ghost use Rattle.answers.specs.Refusals.{ArcDiffers, Contested, CopiesDiffer, Loop, NotClocked, NotMasking, OpenPin, UnnamedSource};
 ghost use Rattle.cells.specs.CellsOf.{cells_of};
 ghost use Rattle.circuit.specs.Parts.{Register, Table};
 ghost use Rattle.design_answers.specs.BadBits.{AreBadPlaces};
-ghost use Rattle.design_checks.specs.CopyChecks.{part_in};
+ghost use Rattle.design_checks.specs.CopyChecks.{CopiesUnlike, part_in};
+ghost use Rattle.design_checks.specs.DesignChecks.{DesignRefused};
 ghost use Rattle.design_checks.specs.MaskChecks.{TablesFail};
 ghost use Rattle.design_checks.specs.PinChecks.{PinsOpen, RegistersUnclocked, SourceUnnamed, TablesLoop};
 ghost use Rattle.design_checks.specs.RoutingChecks.{ArcsDiffer, AreContested};
@@ -19,39 +20,44 @@ ghost use Rattle.mini.specs.ToggleCells.{toggle_cells};
 ghost use Rattle.mini_b.specs.MiniB.{mini_b};
 ghost use Rattle.records.specs.Side.{D0, D2};
 ghost use Rattle.refusal_examples.specs.Changed.{with_arc};
-ghost use Rattle.refusal_examples.specs.CorridorRefused.{looped_circuit, unnamed_circuit};
-ghost use Rattle.refusal_examples.specs.Refused.{cells_with_word, circuit_with, reading_d, unclocked, unmasked};
+ghost use Rattle.refusal_examples.specs.CorridorRefused.{looped_circuit, turned_circuit, unnamed_circuit};
+ghost use Rattle.refusal_examples.specs.Refused.{cells_with_word, circuit_with, on_toggle, reading_d, unclocked, unmasked};
 ghost use Rattle.reports.specs.Reports.{AtWire};
 ghost use Rattle.std.specs.Prelude.{codes, pos, Ok, [], ◌∷◌, ◌≡◌};
 ghost use Rattle.upset_examples.specs.Circuits.{with_toggle};
 
 /// A set bit that makes an arc without a line.
 pub fn stray_bit_is_refused()
-    ensures { let g = graph_of mini_a in ArcsDiffer g (image_of g stray_bit) stray_bit (ArcDiffers (codes "R1C1:MLC") (codes "H5")) }
+    ensures refused { let g = graph_of mini_a in ArcsDiffer g (image_of g stray_bit) stray_bit (ArcDiffers (codes "R1C1:MLC") (codes "H5")) }
+    ensures first { DesignRefused (on_toggle stray_bit) (graph_of mini_a) (ArcDiffers (codes "R1C1:MLC") (codes "H5")) }
 {}
 
 /// A pin with a second arc.
 pub fn second_arc_is_refused()
-    ensures { let g = graph_of mini_a in let config = with_arc (codes "R1C3:MLC") (line (codes "A") (codes "H0")) crossed in
+    ensures refused { let g = graph_of mini_a in let config = with_arc (codes "R1C3:MLC") (line (codes "A") (codes "H0")) crossed in
         AreContested g (image_of g config) (Contested (Local (pos 1) (pos 3) (codes "A")) (Local (pos 1) (pos 3) (codes "H0")) (Local (pos 1) (pos 3) (codes "H3"))) }
+    ensures first { DesignRefused (on_toggle (with_arc (codes "R1C3:MLC") (line (codes "A") (codes "H0")) crossed)) (graph_of mini_a) (Contested (Local (pos 1) (pos 3) (codes "A")) (Local (pos 1) (pos 3) (codes "H0")) (Local (pos 1) (pos 3) (codes "H3"))) }
 {}
 
 /// A word that doesn't mask copy 1: from all ones its pin falls, which gives address 3.
 pub fn unmasked_copy_is_refused()
     ensures cells { let g = graph_of mini_a in cells_of g mini_a.profile (image_of g unmasked) toggle_side ≡ Ok (cells_with_word g 0x1F1F) }
     ensures refused { let g = graph_of mini_a in TablesFail (circuit_with g unmasked (cells_with_word g 0x1F1F)) (NotMasking (part_in (codes "a0") (Table 0)) 3) }
+    ensures first { DesignRefused (on_toggle unmasked) (graph_of mini_a) (NotMasking (part_in (codes "a0") (Table 0)) 3) }
 {}
 
 /// A word that reads a pin without a feed.
 pub fn open_pin_is_refused()
     ensures cells { let g = graph_of mini_a in cells_of g mini_a.profile (image_of g reading_d) toggle_side ≡ Ok (cells_with_word g 0x9717) }
     ensures refused { let g = graph_of mini_a in PinsOpen (circuit_with g reading_d (cells_with_word g 0x9717)) (OpenPin (record { part = part_in (codes "a0") (Table 0); pin = 3 })) }
+    ensures first { DesignRefused (on_toggle reading_d) (graph_of mini_a) (OpenPin (record { part = part_in (codes "a0") (Table 0); pin = 3 })) }
 {}
 
 /// A register without a clock.
 pub fn missing_clock_is_refused()
     ensures cells { let g = graph_of mini_a in cells_of g mini_a.profile (image_of g unclocked) toggle_side ≡ Ok (toggle_cells g) }
     ensures refused { let g = graph_of mini_a in RegistersUnclocked (circuit_with g unclocked (toggle_cells g)) (NotClocked (part_in (codes "a0") (Register 0))) }
+    ensures first { DesignRefused (on_toggle unclocked) (graph_of mini_a) (NotClocked (part_in (codes "a0") (Register 0))) }
 {}
 
 /// The crossed toggle has one bad bit, which joins copies 0 and 2: one is disturbed from the first slice on, the other in
@@ -69,4 +75,9 @@ pub fn loop_is_refused()
 /// A pin that a slice without a name feeds.
 pub fn unnamed_source_is_refused()
     ensures { let g = graph_of mini_b in SourceUnnamed g (unnamed_circuit g) (UnnamedSource (record { part = part_in (codes "w0") (Table 0); pin = 0 }) (Local (pos 1) (pos 1) (codes "F"))) }
+{}
+
+/// A table that isn't like its copies: where its pin takes 0 it gives 1, and they give 0.
+pub fn turned_copy_is_refused()
+    ensures { CopiesUnlike (turned_circuit (graph_of mini_b)) (CopiesDiffer (part_in (codes "w0") (Table 0)) (codes "0 010")) }
 {}

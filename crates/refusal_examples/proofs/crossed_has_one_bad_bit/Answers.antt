@@ -1,9 +1,7 @@
 use Rattle.std.proofs.Common.{inl, inr, refl, subst}
-use Rattle.words.specs.Members.{In}
-use Rattle.reports.specs.Reports.{AtWire, BadPlace}
 use Rattle.design_answers.specs.BadBits.{at_wire, IsBadPlace}
 use Rattle.upset_examples.proofs.Conditions.{of_crossed}
-use Rattle.refusal_examples.proofs.BadBits.{bad, first_domain, second_domain, first_place, second_place, is_that_bit}
+use Rattle.refusal_examples.proofs.BadBits.{first_domain, second_domain, first_place, second_place, is_that_bit}
 use Rattle.refusal_examples.proofs.crossed_has_one_bad_bit.Goals as goal
 
 pub returns : goal.returns

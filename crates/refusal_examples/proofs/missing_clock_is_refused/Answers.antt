@@ -1,18 +1,20 @@
-use Rattle.std.proofs.Common.{◌≡◌, inl, inr, refl, sym, subst, [], ◌∷◌, codes}
+use Rattle.std.proofs.Common.{inl, inr, refl, sym, subst, codes}
 use Rattle.records.specs.Side.{D0}
-use Rattle.circuit.specs.Parts.{Source, Table, Register}
+use Rattle.circuit.specs.Parts.{Source, Table}
 use Rattle.circuit.specs.Pins.{Pin, pin_at}
 use Rattle.circuit.specs.Triplicated.{ReadPart, FedByClock}
 use Rattle.circuit_laws.proofs.Sound.{to_pin}
-use Rattle.circuit_examples.proofs.Tests.{in_at}
 use Rattle.circuit_examples.proofs.Feeding.{feeds_is}
-use Rattle.circuit_examples.proofs.Rules.{dry}
-use Rattle.circuit.specs.Parts.{register_source, sources}
+use Rattle.circuit_examples.proofs.Rules.{dry, open_pins}
+use Rattle.circuit.specs.Parts.{register_source}
 use Rattle.circuit.specs.Cells.{InputWire, InputZero, InputOne, RegisterCell}
 use Rattle.std.specs.Prelude.{false}
-use Rattle.mini.specs.ToggleCells.{slice_at, wire_at}
-use Rattle.design_checks.specs.PinChecks.{IsUnclocked, unclocked}
-use Rattle.refusal_examples.proofs.Circuits.{g, unclocked_circuit, unclocked_sound}
+use Rattle.mini.specs.ToggleCells.{slice_at, toggle_cells, wire_at}
+use Rattle.design_checks.specs.PinChecks.{IsUnclocked, RegistersUnclocked, unclocked}
+use Rattle.refusal_examples.proofs.Circuits.{g, unclocked_circuit, unclocked_sound, unclocked_text}
+use Rattle.answers.specs.Refusals.{NotClocked}
+use Rattle.refusal_examples.specs.Refused as refused
+use Rattle.refusal_examples.proofs.Whole.{refused_in_circuit, refused_at_clocks, named_pass, loops_pass}
 use Rattle.refusal_examples.proofs.Parts.{least_unclocked}
 use Rattle.refusal_examples.proofs.missing_clock_is_refused.Goals as goal
 
@@ -48,5 +50,13 @@ is_unclocked = record {
   ];
 }
 
+registers_unclocked : RegistersUnclocked unclocked_circuit (NotClocked register.part)
+registers_unclocked = unclocked register.part (least_unclocked unclocked_circuit register.part is_unclocked refl)
+
 pub returns : goal.returns
-returns c = record { cells = refl; refused = unclocked register.part (least_unclocked unclocked_circuit register.part is_unclocked refl) }
+returns c = record {
+  cells = refl;
+  refused = registers_unclocked;
+  first = refused_in_circuit refused.unclocked (toggle_cells g) unclocked_text refl (NotClocked register.part)
+      (refused_at_clocks unclocked_circuit (named_pass unclocked_circuit refl) (loops_pass unclocked_circuit refl) (open_pins unclocked_circuit (record { parts = refl; pads = refl })) refl (NotClocked register.part) registers_unclocked);
+}

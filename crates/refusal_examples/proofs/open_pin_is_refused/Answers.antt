@@ -1,4 +1,4 @@
-use Rattle.std.proofs.Common.{◌≡◌, true, false, [], ◌∷◌, inl, inr, refl, sym, codes}
+use Rattle.std.proofs.Common.{true, false, [], ◌∷◌, inl, inr, refl, sym, codes}
 use Rattle.links.specs.Links.{Fed}
 use Rattle.records.specs.Side.{D0}
 use Rattle.circuit.specs.Cells.{SliceCell, TableCell}
@@ -11,9 +11,11 @@ use Rattle.circuit_examples.proofs.Tests.{no_false}
 use Rattle.circuit_examples.proofs.Feeding.{feeds_is}
 use Rattle.circuit_examples.proofs.Rules.{fed_complete}
 use Rattle.mini.specs.ToggleCells.{slice_at, wire_at}
-use Rattle.design_checks.specs.PinChecks.{IsOpen, of_part, open_pin}
-use Rattle.refusal_examples.specs.Refused.{slice_with_word}
-use Rattle.refusal_examples.proofs.Circuits.{g, reading_circuit, reading_sound}
+use Rattle.design_checks.specs.PinChecks.{IsOpen, of_part, PinsOpen, open_pin}
+use Rattle.refusal_examples.specs.Refused.{slice_with_word, cells_with_word, reading_d}
+use Rattle.refusal_examples.proofs.Circuits.{g, reading_circuit, reading_sound, reading_text}
+use Rattle.answers.specs.Refusals.{OpenPin}
+use Rattle.refusal_examples.proofs.Whole.{refused_in_circuit, refused_at_open, named_pass, loops_pass}
 use Rattle.refusal_examples.proofs.Parts.{least_open}
 use Rattle.refusal_examples.proofs.open_pin_is_refused.Goals as goal
 
@@ -48,5 +50,13 @@ heeded same = no_false (sym (same (true ∷ true ∷ true ∷ false ∷ []) refl
 is_open : IsOpen reading_circuit pin.ref
 is_open = of_part table pin is_read (inr (inr (inr (inl refl)))) (unfed, heeded)
 
+pins_open : PinsOpen reading_circuit (OpenPin pin.ref)
+pins_open = open_pin pin.ref (least_open reading_circuit pin.ref is_open refl)
+
 pub returns : goal.returns
-returns c = record { cells = refl; refused = open_pin pin.ref (least_open reading_circuit pin.ref is_open refl) }
+returns c = record {
+  cells = refl;
+  refused = pins_open;
+  first = refused_in_circuit reading_d (cells_with_word g 0x9717) reading_text refl (OpenPin pin.ref)
+      (refused_at_open reading_circuit (named_pass reading_circuit refl) (loops_pass reading_circuit refl) (OpenPin pin.ref) pins_open);
+}

@@ -6,7 +6,9 @@ use Rattle.fabric_laws.proofs.Graphs.{has_graph}
 use Rattle.circuit_examples.proofs.Tests.{in_at}
 use Rattle.mini.specs.MiniA.{mini_a}
 use Rattle.fabric_examples.specs.Faulty.{stray_bit}
-use Rattle.design_checks.specs.RoutingChecks.{MuxName, Differs, differ}
+use Rattle.design_checks.specs.RoutingChecks.{MuxName, Differs, ArcsDiffer, differ}
+use Rattle.answers.specs.Refusals.{ArcDiffers}
+use Rattle.refusal_examples.proofs.Whole.{refused_at_arcs}
 use Rattle.refusal_examples.proofs.Arcs.{lineless, least_differs}
 use Rattle.refusal_examples.proofs.stray_bit_is_refused.Goals as goal
 
@@ -29,5 +31,8 @@ differs = record {
   differs = inl (refl, (refl, lineless mini_a g (has_graph mini_a) stray_bit _ refl));
 }
 
+arcs_differ : ArcsDiffer g (image_of g stray_bit) stray_bit (ArcDiffers (codes "R1C1:MLC") (codes "H5"))
+arcs_differ = differ name (least_differs mini_a g (has_graph mini_a) stray_bit (image_of g stray_bit) name differs refl)
+
 pub returns : goal.returns
-returns c = differ name (least_differs mini_a g (has_graph mini_a) stray_bit (image_of g stray_bit) name differs refl)
+returns c = record { refused = arcs_differ; first = refused_at_arcs stray_bit refl (ArcDiffers (codes "R1C1:MLC") (codes "H5")) arcs_differ }
