@@ -55,7 +55,7 @@ module _ (device : Device) (g : Graph) (is : IsGraph device g) (config : Config)
       let parts = and_parts (a.mux == b.mux) (a.place == b.place) h in
       let there = line_listed g config b (record { text = text; line = line; section = i; listed = j; is = e }) in
       let same : b ≡ a = one_arc device g.wires a b (arc_of device g.wires a ((is.arcs.members a).0 listed)) (arc_of device g.wires b ((is.arcs.members b).0 there))
-          (record { mux = eqb-true a.mux b.mux parts.0; place = eqb-true a.place b.place parts.1 }) in
+      (record { mux = eqb-true a.mux b.mux parts.0; place = eqb-true a.place b.place parts.1 }) in
       record { text = text; line = line; section = i; listed = j; is = e ∙ ap (λ x. Some x) same }
 
   line_from : (a : GraphArc) → In g.arcs a → has_line g config a ≡ true → HasLine g config a

@@ -119,13 +119,15 @@ upstream_listed x w i (onto {b} q s) =
 
 disturbed_listed : (w : ℕ) → IsDisturbed k flips w → In wires w × (is_root_of w ≡ true)
 disturbed_listed w h = elim h [
-  | inl hit ↦ (let i = (hits_law mini_a k (has_graph mini_a) flips w).1 hit in
-      (in_left (hit_wires k flips) (short_sources k flips ++ map (λ l. l.source) r.links) w i,
-      or_left (has (hit_wires k flips) w) (list_any (λ x. has (below r.links w) x) (short_sources k flips)) (has_in (hit_wires k flips) w i)))
-  | inr x ↦ (let i = (shorts_law mini_a k (has_graph mini_a) flips x.0).1 x.1.0 in
-      (upstream_listed x.0 w i x.1.1,
-      or_right (has (hit_wires k flips) w) (list_any (λ x. has (below r.links w) x) (short_sources k flips))
-      (any_at (λ y. has (below r.links w) y) (short_sources k flips) x.0 i (has_in (below r.links w) x.0 (below_complete r.links (leads_down x.0 w x.1.1))))))
+  | inl hit ↦ (let i = (hits_law mini_a k (has_graph mini_a) flips w).1 hit in (
+    in_left (hit_wires k flips) (short_sources k flips ++ map (λ l. l.source) r.links) w i,
+    or_left (has (hit_wires k flips) w) (list_any (λ x. has (below r.links w) x) (short_sources k flips)) (has_in (hit_wires k flips) w i),
+  ))
+  | inr x ↦ (let i = (shorts_law mini_a k (has_graph mini_a) flips x.0).1 x.1.0 in (
+    upstream_listed x.0 w i x.1.1,
+    or_right (has (hit_wires k flips) w) (list_any (λ x. has (below r.links w) x) (short_sources k flips))
+        (any_at (λ y. has (below r.links w) y) (short_sources k flips) x.0 i (has_in (below r.links w) x.0 (below_complete r.links (leads_down x.0 w x.1.1)))),
+  ))
 ]
 
 of_domain_is : (d : Domain) (w : ℕ) → HasDomain (circuit_of k) w d → of_domain d w ≡ true

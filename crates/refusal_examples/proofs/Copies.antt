@@ -245,7 +245,7 @@ none_of t n digits outputs i other d =
     let at_p = group_at t n d.bits false i p in
     let at_q = group_at t n d.bits true i q in
     let same = alike p.source q.source p.table q.table p.listed q.listed p.is_table q.is_table (at_p ∙ sym at_q)
-        (subst (λ (z : PartTriple). not (triple_eq z.cells copies_w) ≡ true) (sym at_p) other) d.bits p.pins q.pins p.assigned q.assigned in
+    (subst (λ (z : PartTriple). not (triple_eq z.cells copies_w) ≡ true) (sym at_p) other) d.bits p.pins q.pins p.assigned q.assigned in
     apart_digits (sym q.gives ∙ (sym (ap digit same) ∙ p.gives))
 
 no_registers : list_all (λ s. not (is_register c s.kind)) (sources c.cells) ≡ true
@@ -285,7 +285,7 @@ no_outputs_differ t i d =
     let jp = d.1.1.0 in
     let jq = d.1.1.1.0 in
     let tested = all_in (shown_alike t p) (output_pads c.cells) q (all_in (λ (z : PadCell). list_all (shown_alike t z) (output_pads c.cells)) (output_pads c.cells) p
-        (all_in (λ (x : Triple). list_all (λ (z : PadCell). list_all (shown_alike x z) (output_pads c.cells)) (output_pads c.cells)) c.side.outputs t all_shown i) jp) jq in
+    (all_in (λ (x : Triple). list_all (λ (z : PadCell). list_all (shown_alike x z) (output_pads c.cells)) (output_pads c.cells)) c.side.outputs t all_shown i) jp) jq in
     d.1.1.1.1.1.1 (fed_alike_is (pad_pin p) (pad_pin q) (pad_pin_listed c.cells p jp) (pad_pin_listed c.cells q jq)
     (implied (entry t p.name && entry t q.name) _ tested (and_both (entry t p.name) (entry t q.name) (entry_is t p.name d.1.1.1.1.0) (entry_is t q.name d.1.1.1.1.1.0))))
 

@@ -36,9 +36,17 @@ module _ (c : Circuit) where
   is_fed_unnamed p = list_any (λ o. not (is_modelled o) && has (below c.routing.links o) p.wire) c.routing.outputs
 
   pub unnamed_told : Told pin_cmp (λ ref. (x : ℕ) × IsFedUnnamed c ref x) (pins c.cells) (λ p. p.ref) is_fed_unnamed
-  unnamed_told ref h = let f = h.1 in
-      (f.pin, (f.listed, (f.is, any_at (λ o. not (is_modelled o) && has (below c.routing.links o) f.pin.wire) c.routing.outputs h.0 f.feeds.output
-      (and_both (not (is_modelled h.0)) (has (below c.routing.links h.0) f.pin.wire) (modelled_not h.0 f.unnamed) (has_in (below c.routing.links h.0) f.pin.wire (below_complete c.routing.links f.feeds.reach))))))
+  unnamed_told ref h = let f = h.1 in (
+    f.pin,
+    (
+      f.listed,
+      (
+        f.is,
+        any_at (λ o. not (is_modelled o) && has (below c.routing.links o) f.pin.wire) c.routing.outputs h.0 f.feeds.output
+            (and_both (not (is_modelled h.0)) (has (below c.routing.links h.0) f.pin.wire) (modelled_not h.0 f.unnamed) (has_in (below c.routing.links h.0) f.pin.wire (below_complete c.routing.links f.feeds.reach))),
+      ),
+    ),
+  )
 
   pub least_unnamed : (ref : PinRef) (o : ℕ) → IsFedUnnamed c ref o → list_all (λ p. implies (is_fed_unnamed p) (not (is_after (pin_cmp ref p.ref)))) (pins c.cells) ≡ true
       → IsLeast pin_cmp (λ pin. (x : ℕ) × IsFedUnnamed c pin x) ref

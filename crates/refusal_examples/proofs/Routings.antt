@@ -31,10 +31,18 @@ module _ (r : Routing) where
 
   contested_told : Told nat_cmp (IsContested r) r.links (λ l. l.sink) is_second
   contested_told w h = elim h [
-    | inl k ↦ (let l : Link = record { source = k.0; sink = w } in let m : Link = record { source = k.1.0; sink = w } in
-        (l, (k.1.1.0.0, (refl, or_left (list_any (λ n. eqb n.sink w && not (eqb n.source k.0)) r.links) (has r.outputs w)
-        (any_at (λ n. eqb n.sink w && not (eqb n.source k.0)) r.links m k.1.1.1.0.0
-        (and_both (eqb w w) (not (eqb k.1.0 k.0)) (is_number w w refl) (unequal k.1.0 k.0 (λ e. k.1.1.1.1 (sym e)))))))))
+    | inl k ↦ (let l : Link = record { source = k.0; sink = w } in let m : Link = record { source = k.1.0; sink = w } in (
+      l,
+      (
+        k.1.1.0.0,
+        (
+          refl,
+          or_left (list_any (λ n. eqb n.sink w && not (eqb n.source k.0)) r.links) (has r.outputs w)
+              (any_at (λ n. eqb n.sink w && not (eqb n.source k.0)) r.links m k.1.1.1.0.0
+              (and_both (eqb w w) (not (eqb k.1.0 k.0)) (is_number w w refl) (unequal k.1.0 k.0 (λ e. k.1.1.1.1 (sym e))))),
+        ),
+      ),
+    ))
     | inr k ↦ (let l : Link = record { source = k.1.0; sink = w } in
         (l, (k.1.1.0, (refl, or_right (list_any (λ n. eqb n.sink w && not (eqb n.source k.1.0)) r.links) (has r.outputs w) (has_in r.outputs w k.0)))))
   ]

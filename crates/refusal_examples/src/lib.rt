@@ -63,8 +63,13 @@ pub fn missing_clock_is_refused()
 /// The crossed toggle has one bad bit, which joins copies 0 and 2: one is disturbed from the first slice on, the other in
 /// the third alone.
 pub fn crossed_has_one_bad_bit()
-    ensures { AreBadPlaces (with_toggle (graph_of mini_a) crossed) (record { bit = record { frame = 52; bit = 11 }; first = D0; first_at = AtWire (Local (pos 1) (pos 1) (codes "H4"));
-        second = D2; second_at = AtWire (Local (pos 1) (pos 3) (codes "H3")) } ∷ []) }
+    ensures { AreBadPlaces (with_toggle (graph_of mini_a) crossed) (record {
+      bit = record { frame = 52; bit = 11 };
+      first = D0;
+      first_at = AtWire (Local (pos 1) (pos 1) (codes "H4"));
+      second = D2;
+      second_at = AtWire (Local (pos 1) (pos 3) (codes "H3"));
+    } ∷ []) }
 {}
 
 /// A table that reads itself over a track.
