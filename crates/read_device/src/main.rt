@@ -81,8 +81,9 @@ fn print_grid<R: Files + Print + AllocGlobal>(rt: &R, family: &str, device: &str
 
 fn print_profile<R: Files + Print + AllocGlobal>(rt: &R, path: &str) -> Result<()> {
     let bytes = bytes_of(rt, path)?;
-    let profile: Profile =
-        cell_profile::read(rt.alloc(), bytes.as_slice()).context(format_args!("in {path}"))?;
+    let profile: Profile = cell_profile::read(rt.alloc(), bytes.as_slice()).context(format_args!(
+        "in {path}"
+    ))?;
     let joins = profile.joins.len();
     let slices = profile.slices.len();
     let pads = profile.pads.len();
