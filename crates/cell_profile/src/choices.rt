@@ -3,6 +3,7 @@
 ghost use Rattle.std.specs.Prelude.{◌≡◌, map};
 ghost use Rattle.serde_json.specs.View.{view};
 ghost use Rattle.json_forms.specs.Each.{each};
+ghost use Rattle.json_forms.specs.Values.{member_in};
 ghost use Rattle.json_forms.specs.Choices as choices;
 ghost use Rattle.json_values.specs.Reads.{Reads};
 ghost use Rattle.cell_profile.specs.Takes.{take_for};
@@ -101,13 +102,9 @@ fn is_case_count(has_setting: bool, count: usize) -> bool
     if has_setting { 0 < count } else { count == 1 }
 }
 
-/// The choice that a value is.
+// The choice that a value is.
 #[tactic(auto, unfolding(json_forms::specs::Choices::choice_in))]
-pub(crate) fn read_choice(
-    alloc: Global,
-    purpose: Purpose,
-    value: &Value,
-) -> Result<Choice, FormError>
+fn read_choice(alloc: Global, purpose: Purpose, value: &Value) -> Result<Choice, FormError>
     ensures { Reads (λ choice. choice) result (choices.choice_in (take_for purpose) (view value.now)) }
 {
     let (setting, values) = json_values::pair(value)?;
@@ -118,4 +115,17 @@ pub(crate) fn read_choice(
         return Err(FormError::Unfit);
     }
     Ok(Choice { setting, cases })
+}
+
+/// The choice that the member of a name is.
+pub(crate) fn choice_member(
+    alloc: Global,
+    purpose: Purpose,
+    object: &Value,
+    name: &str,
+) -> Result<Choice, FormError>
+    ensures { Reads (λ choice. choice) result
+        (member_in name.now (choices.choice_in (take_for purpose)) (view object.now)) }
+{
+    read_choice(alloc, purpose, json_values::member(object, name)?)
 }

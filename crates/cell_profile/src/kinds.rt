@@ -4,9 +4,11 @@ ghost use Rattle.std.specs.Prelude.{◌≡◌};
 ghost use Rattle.json_forms.specs.Kinds.{is_pin_count as is_pin_count_spec};
 
 use crate::Choice;
-use crate::choices::read_choice;
+use crate::choices::choice_member;
 use crate::takes::Purpose;
-use json_values::{FormError, FromJson, list, member, name, name_or_empty, pair, triple};
+use json_values::{
+    FormError, FromJson, list_member, member_as, name, name_or_empty_member, pair, triple,
+};
 use rr_ids::{List, Name};
 use serde_json::Value;
 use std::alloc::Global;
@@ -104,9 +106,9 @@ impl FromJson for TableKind {
 
     #[tactic(auto, unfolding(json_forms::specs::Kinds::table_in))]
     fn from_json(alloc: Global, value: &Value) -> Result<TableKind, FormError> {
-        let word = name(alloc, member(value, "word")?)?;
-        let pins = list::<Name>(alloc, member(value, "pins")?)?;
-        let out = name(alloc, member(value, "out")?)?;
+        let word = member_as::<Name>(alloc, value, "word")?;
+        let pins = list_member::<Name>(alloc, value, "pins")?;
+        let out = member_as::<Name>(alloc, value, "out")?;
         if !is_pin_count(pins.len()) {
             return Err(FormError::Unfit);
         }
@@ -140,13 +142,13 @@ impl FromJson for RegisterKind {
 
     #[tactic(auto, unfolding(json_forms::specs::Kinds::register_in))]
     fn from_json(alloc: Global, value: &Value) -> Result<RegisterKind, FormError> {
-        let out = name(alloc, member(value, "out")?)?;
+        let out = member_as::<Name>(alloc, value, "out")?;
         Ok(RegisterKind {
-            input: read_choice(alloc, Purpose::Input, member(value, "data")?)?,
-            enable: read_choice(alloc, Purpose::Input, member(value, "enable")?)?,
-            reset: read_choice(alloc, Purpose::Input, member(value, "reset")?)?,
-            set: read_choice(alloc, Purpose::Set, member(value, "set")?)?,
-            clock: read_choice(alloc, Purpose::Clock, member(value, "clock")?)?,
+            input: choice_member(alloc, Purpose::Input, value, "data")?,
+            enable: choice_member(alloc, Purpose::Input, value, "enable")?,
+            reset: choice_member(alloc, Purpose::Input, value, "reset")?,
+            set: choice_member(alloc, Purpose::Set, value, "set")?,
+            clock: choice_member(alloc, Purpose::Clock, value, "clock")?,
             out,
         })
     }
@@ -181,13 +183,13 @@ impl FromJson for SliceKind {
     #[tactic(auto, unfolding(json_forms::specs::Kinds::slice_in))]
     fn from_json(alloc: Global, value: &Value) -> Result<SliceKind, FormError> {
         Ok(SliceKind {
-            tile: name(alloc, member(value, "tile")?)?,
-            name: name(alloc, member(value, "name")?)?,
-            shape: name(alloc, member(value, "shape")?)?,
-            settings: list::<Name>(alloc, member(value, "settings")?)?,
-            require: list::<Require>(alloc, member(value, "require")?)?,
-            tables: list::<TableKind>(alloc, member(value, "tables")?)?,
-            registers: list::<RegisterKind>(alloc, member(value, "registers")?)?,
+            tile: member_as::<Name>(alloc, value, "tile")?,
+            name: member_as::<Name>(alloc, value, "name")?,
+            shape: member_as::<Name>(alloc, value, "shape")?,
+            settings: list_member::<Name>(alloc, value, "settings")?,
+            require: list_member::<Require>(alloc, value, "require")?,
+            tables: list_member::<TableKind>(alloc, value, "tables")?,
+            registers: list_member::<RegisterKind>(alloc, value, "registers")?,
         })
     }
 }
@@ -220,12 +222,12 @@ impl FromJson for PadKind {
     #[tactic(auto, unfolding(json_forms::specs::Kinds::pad_in))]
     fn from_json(alloc: Global, value: &Value) -> Result<PadKind, FormError> {
         Ok(PadKind {
-            tile: name(alloc, member(value, "tile")?)?,
-            name: name(alloc, member(value, "name")?)?,
-            settings: list::<Name>(alloc, member(value, "settings")?)?,
-            mode: read_choice(alloc, Purpose::Mode, member(value, "mode")?)?,
-            in_wire: name_or_empty(alloc, member(value, "in")?)?,
-            out_wire: name_or_empty(alloc, member(value, "out")?)?,
+            tile: member_as::<Name>(alloc, value, "tile")?,
+            name: member_as::<Name>(alloc, value, "name")?,
+            settings: list_member::<Name>(alloc, value, "settings")?,
+            mode: choice_member(alloc, Purpose::Mode, value, "mode")?,
+            in_wire: name_or_empty_member(alloc, value, "in")?,
+            out_wire: name_or_empty_member(alloc, value, "out")?,
         })
     }
 }

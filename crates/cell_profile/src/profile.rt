@@ -9,7 +9,6 @@ ghost use Rattle.json_forms.specs.Parts.{name_or_empty_in};
 ghost use Rattle.json_forms.specs.Faults as form;
 ghost use Rattle.json_forms.specs.Kinds.{join_in, slice_in, pad_in};
 ghost use Rattle.json_forms.specs.Profile.{list_read, any_form, slice_verdict, pad_verdict, profile_of, profile_of_value as profile_of_value_spec};
-ghost use Rattle.json_values.specs.Reads.{Reads};
 ghost use Rattle.cell_profile.specs.Faults.{fault_of};
 
 use crate::judges::{AnyForm, PadJudge, SliceJudge};
@@ -39,20 +38,13 @@ impl Model for Profile {
     ghost view = { λ p. record { rules = p.rules; joins = p.joins; slices = p.slices; pads = p.pads } };
 }
 
-// The name, or nothing, that a member is.
-fn name_member(alloc: Global, file: &Value, name: &str) -> Result<Option<Name>, FormError>
-    ensures { Reads (λ it. it) result (member_in name.now name_or_empty_in (view file.now)) }
-{
-    json_values::name_or_empty(alloc, json_values::member(file, name)?)
-}
-
 // The prefix of the chip.
 fn chip_prefix(alloc: Global, file: &Value) -> Result<Option<Name>, ProfileError>
     ensures { OrMemory (λ prefix. prefix) fault_of result
         (ok_or (member_in (codes "chip_prefix") name_or_empty_in (view file.now))
         (form.FormFault.BadShape (codes "chip_prefix"))) }
 {
-    match name_member(alloc, file, "chip_prefix") {
+    match json_values::name_or_empty_member(alloc, file, "chip_prefix") {
         Ok(prefix) => Ok(prefix),
         Err(FormError::Unfit) => Err(ProfileError::BadShape(Text::new(alloc, b"chip_prefix")?)),
         Err(FormError::Memory) => Err(ProfileError::Memory),

@@ -4,13 +4,13 @@
 ghost use Rattle.std.specs.Prelude.{map, ◌≤◌, IfOk};
 ghost use Rattle.serde_json.specs.Find.{get, as_str};
 ghost use Rattle.serde_json.specs.View.{view};
-ghost use Rattle.json_forms.specs.Values.{reading_of, list_in, if_name, name_in, whole_in};
+ghost use Rattle.json_forms.specs.Values.{reading_of, list_in, if_name, name_in, whole_in, member_in};
 ghost use Rattle.json_forms.specs.Parts.{name_or_empty_in};
 ghost use Rattle.json_values.specs.Reads.{Reads};
 
 mod lists;
 
-pub use lists::{FromJson, list, pair, triple};
+pub use lists::{FromJson, list, list_member, member_as, pair, triple};
 use rr_ids::{Name, NameError};
 use serde_json::Value;
 use std::alloc::{AllocError, AllocFailed, Global};
@@ -121,4 +121,15 @@ pub fn member<'a>(object: &'a Value, name: &str) -> Result<&'a Value, FormError>
     ensures { Reads (λ value. view value.now) result (get name.now (view object.now)) }
 {
     object.get(name).ok_or(FormError::Unfit)
+}
+
+/// The name, or nothing for the empty text, that the member of a name is.
+pub fn name_or_empty_member(
+    alloc: Global,
+    object: &Value,
+    name: &str,
+) -> Result<Option<Name>, FormError>
+    ensures { Reads (λ it. it) result (member_in name.now name_or_empty_in (view object.now)) }
+{
+    name_or_empty(alloc, member(object, name)?)
 }

@@ -1,11 +1,12 @@
-//! Lists of values that have one form.
+//! Values of a form, lists of them, and members that are such.
 
 ghost use Rattle.serde_json.specs.Data.{Data};
 ghost use Rattle.serde_json.specs.View.{view};
+ghost use Rattle.json_forms.specs.Values.{member_in};
 ghost use Rattle.json_forms.specs.Parts.{list_of, pair_in, triple_in};
 ghost use Rattle.json_values.specs.Reads.{Reads};
 
-use crate::{FormError, elements, name};
+use crate::{FormError, elements, member, name};
 use rr_ids::{List, Name};
 use serde_json::Value;
 use std::alloc::Global;
@@ -44,6 +45,24 @@ pub fn list<T: FromJson>(alloc: Global, value: &Value) -> Result<List<T>, FormEr
         list.push(T::from_json(alloc, element)?)?;
     }
     Ok(list)
+}
+
+/// What the member of a name stands for; `Unfit` where there is none, or it has another form.
+pub fn member_as<T: FromJson>(alloc: Global, object: &Value, name: &str) -> Result<T, FormError>
+    ensures { Reads (λ it. it) result (member_in name.now T.value_in (view object.now)) }
+{
+    T::from_json(alloc, member(object, name)?)
+}
+
+/// The list that the member of a name stands for; `Unfit` where there is none, or it has another form.
+pub fn list_member<T: FromJson>(
+    alloc: Global,
+    object: &Value,
+    name: &str,
+) -> Result<List<T>, FormError>
+    ensures { Reads (λ it. it) result (member_in name.now (list_of T.value_in) (view object.now)) }
+{
+    list::<T>(alloc, member(object, name)?)
 }
 
 /// The elements of a list of two.
