@@ -156,10 +156,14 @@ fn answers(rt: HostRuntime) -> Result<(), Fail> {
     Ok(())
 }
 
-// A mux whose one arc has a source of so many bytes and a pattern of so many bits.
-fn one_arc(alloc: Global, bytes: usize, bits: usize) -> Result<Vec<u8>, AllocError> {
-    let mut text = Vec::from_slice(alloc, b".mux W\n")?;
-    for _ in 0..bytes {
+// A mux with a sink of so many bytes, whose one arc has a source of so many bytes and a pattern of so many bits.
+fn one_arc(alloc: Global, sink: usize, source: usize, bits: usize) -> Result<Vec<u8>, AllocError> {
+    let mut text = Vec::from_slice(alloc, b".mux ")?;
+    for _ in 0..sink {
+        text.push(b'W')?;
+    }
+    text.push(b'\n')?;
+    for _ in 0..source {
         text.push(b'S')?;
     }
     for _ in 0..bits {
@@ -173,22 +177,33 @@ fn one_arc(alloc: Global, bytes: usize, bits: usize) -> Result<Vec<u8>, AllocErr
 fn limits(rt: HostRuntime) -> Result<(), Fail> {
     let alloc = rt.alloc();
     let cases = [
-        (2, 32, Status::Done, "W SS\n"),
-        (2, 33, Status::Refused, "refused 6 TooLarge m.db pattern\n"),
-        (256, 32, Status::Refused, "refused 3 BadLine m.db 2\n"),
-        (256, 33, Status::Refused, "refused 3 BadLine m.db 2\n"),
+        (1, 2, 32, Status::Done, "W SS\n"),
+        (
+            1,
+            2,
+            33,
+            Status::Refused,
+            "refused 6 TooLarge m.db pattern\n",
+        ),
+        (256, 2, 32, Status::Refused, "refused 3 BadLine m.db 1\n"),
+        (1, 256, 32, Status::Refused, "refused 3 BadLine m.db 2\n"),
+        (1, 256, 33, Status::Refused, "refused 3 BadLine m.db 2\n"),
     ];
-    for (bytes, bits, status, printed) in cases {
-        let text = one_arc(alloc, bytes, bits)?;
+    for (sink, source, bits, status, printed) in cases {
+        let text = one_arc(alloc, sink, source, bits)?;
         let mut files = SureFiles::new(one_file(alloc, &text)?);
         let mut out = SureSink::new(alloc);
         let words = words_of(alloc, "drivers m.db F0B0")?;
         assert_eq!(rt;
             harden_main(alloc, &words, &mut files, &mut out),
             status,
-            "at {bytes} {bits}"
+            "at {sink} {source} {bits}"
         );
-        assert_eq!(rt; out.written(), printed.as_bytes(), "at {bytes} {bits}");
+        assert_eq!(rt;
+            out.written(),
+            printed.as_bytes(),
+            "at {sink} {source} {bits}"
+        );
     }
     let edges = [
         (16 * 1024 * 1024, Status::Done, ""),
