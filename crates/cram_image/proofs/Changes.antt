@@ -1,0 +1,1 @@
+-- What a change of one bit of one word leaves.

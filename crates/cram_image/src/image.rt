@@ -1,0 +1,69 @@
+//! Images of the configuration memory.
+
+ghost use Rattle.std.specs.Prelude.{◌≡◌, Bool, true, false, OnOk, OnErr};
+ghost use Rattle.patterns.specs.Bits.{DeviceBit as Bit};
+ghost use Rattle.patterns.specs.Written.{with_bit};
+ghost use Rattle.cram_image.specs.Image.{bits};
+
+use crate::words::{Words, has_bit, place_of, with_one, with_zero, word_at};
+use indexmap::IndexMap;
+use rr_ids::DeviceBit;
+use std::alloc::{AllocError, Global};
+use std::marker::Model;
+
+/// The set of the device bits that are 1. Contracts see a list of them without repeats, and speak of the test of its
+/// members, `bits`.
+#[derive(Drop)]
+pub struct Image {
+    words: Words,
+}
+
+impl Model for Image {
+    ghost use Rattle.std.specs.Prelude.{List};
+    ghost use Rattle.patterns.specs.Bits.{DeviceBit as Bit};
+    ghost use Rattle.cram_image.specs.Words.{bits_of_words, AreApart};
+
+    ghost Value = { List Bit };
+
+    ghost view = { λ i. bits_of_words i.words.entries };
+
+    ghost invariant = { λ i. AreApart i.words.entries };
+}
+
+impl Image {
+    /// No bits; takes no memory yet.
+    pub fn new(alloc: Global) -> Image
+        ensures { (b : Bit) → bits result b ≡ false }
+    {
+        Image {
+            words: IndexMap::new(alloc),
+        }
+    }
+
+    /// Whether a bit is 1.
+    pub fn get(&self, b: DeviceBit) -> bool
+        ensures { result ≡ bits self.now b }
+    {
+        has_bit(word_at(&self.words, place_of(b)), b)
+    }
+
+    /// Makes a bit 1. An `Err` changes nothing.
+    pub fn set(&mut self, b: DeviceBit) -> Result<(), AllocError>
+        ensures ok { OnOk result ((c : Bit) → bits self.new c ≡ with_bit (bits self.old) b true c) }
+        ensures err { OnErr result (self.new ≡ self.old) }
+    {
+        let place = place_of(b);
+        let word = word_at(&self.words, place);
+        self.words.insert(place, with_one(word, b))?;
+        Ok(())
+    }
+    /// Makes a bit 0; takes no memory.
+    pub fn clear(&mut self, b: DeviceBit)
+        ensures { (c : Bit) → bits self.new c ≡ with_bit (bits self.old) b false c }
+    {
+        let Some(word) = self.words.get_mut(&place_of(b)) else {
+            return;
+        };
+        *word = with_zero(*word, b);
+    }
+}
