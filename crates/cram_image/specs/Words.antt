@@ -4,7 +4,7 @@ use Rattle.std.specs.Int.{bit_at}
 use Rattle.std.specs.List.{IsDistinct}
 use Rattle.std.specs.Map.{lookup, keys_of}
 use Rattle.patterns.specs.Bits.{DeviceBit}
-use Rattle.cram_image.specs.declared.words.WordPlace.{WordPlace}
+use Rattle.cram_image.specs.declared.word.WordPlace.{WordPlace}
 
 abbrev pub same_place : WordPlace → WordPlace → Bool
 same_place a b = (a.frame == b.frame) && (a.number == b.number)

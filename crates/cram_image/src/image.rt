@@ -1,15 +1,19 @@
 //! Images of the configuration memory.
 
 ghost use Rattle.std.specs.Prelude.{◌≡◌, Bool, true, false, OnOk, OnErr};
-ghost use Rattle.patterns.specs.Bits.{DeviceBit as Bit};
+ghost use Rattle.patterns.specs.Bits.{DeviceBit as Bit, device_bit as device_bit_of};
+ghost use Rattle.patterns.specs.Fits.{fits as fits_of, present as present_of};
 ghost use Rattle.patterns.specs.Written.{with_bit};
+ghost use Rattle.records.specs.Grid.{origin_of};
 ghost use Rattle.cram_image.specs.Image.{bits};
 
-use crate::words::{Words, has_bit, place_of, with_one, with_zero, word_at};
+use crate::word::{Words, has_bit, place_of, with_one, with_zero, word_at};
 use indexmap::IndexMap;
 use rr_ids::DeviceBit;
 use std::alloc::{AllocError, Global};
 use std::marker::Model;
+use text_cut::PatternBit;
+use tile_grid::Tile;
 
 /// The set of the device bits that are 1. Contracts see a list of them without repeats, and speak of the test of its
 /// members, `bits`.
@@ -65,5 +69,32 @@ impl Image {
             return;
         };
         *word = with_zero(*word, b);
+    }
+    /// Whether a pattern fits at a tile: each of its plain bits is 1 and each of its `!` bits 0. Takes no memory.
+    pub fn fits(&self, pattern: &[PatternBit], tile: &Tile) -> bool
+        ensures { result ≡ fits_of (bits self.now) (origin_of tile.now) pattern.now }
+    {
+        pattern
+            .iter()
+            .all(|p| self.get(device_bit(tile, p)) == p.set)
+    }
+
+    /// Whether a pattern is present at a tile: each of its plain bits is 1. Takes no memory.
+    pub fn present(&self, pattern: &[PatternBit], tile: &Tile) -> bool
+        ensures { result ≡ present_of (bits self.now) (origin_of tile.now) pattern.now }
+    {
+        pattern
+            .iter()
+            .all(|p| !p.set || self.get(device_bit(tile, p)))
+    }
+}
+
+// The device bit of a pattern's bit.
+fn device_bit(tile: &Tile, p: &PatternBit) -> DeviceBit
+    ensures { result ≡ device_bit_of (origin_of tile.now) p.now }
+{
+    DeviceBit {
+        frame: tile.start_frame + u32::from(p.frame),
+        bit: tile.start_bit + u32::from(p.bit),
     }
 }

@@ -2,6 +2,6 @@
 #![tactic(auto)]
 
 mod image;
-mod words;
+mod word;
 
 pub use image::Image;
