@@ -47,7 +47,7 @@ same_in_word b c place =
     ∙ sym (ne_eqb (c.bit % 64) (b.bit % 64) other))
     (cases_eq (c.bit % 64) (b.bit % 64))
 
-same_is : (b c : DeviceBit) → same_bit b c ≡ true → b ≡ c
+pub same_is : (b c : DeviceBit) → same_bit b c ≡ true → b ≡ c
 same_is b c e =
     let parts = and_parts (b.frame == c.frame) (b.bit == c.bit) e in
     let frames = eqb-true b.frame c.frame parts.0 in
