@@ -1,7 +1,7 @@
 -- What a change of one bit of one word leaves.
-use Rattle.std.proofs.Common.{◌≡◌, ◌≢◌, ◌∙◌, ◌*◌, ◌/◌, ◌%◌, ◌^◌, ◌<◌, ℕ, Bool, true, false, cond, List, Some, None, refl, sym, ap, subst, arith, ⊎_elim, w64, bit_and, bit_or}
+use Rattle.std.proofs.Common.{◌≡◌, ◌≢◌, ◌∙◌, ◌*◌, ◌/◌, ◌%◌, ◌^◌, ◌<◌, ℕ, Bool, true, false, cond, List, Some, None, refl, sym, ap, arith, ⊎_elim, w64, bit_and, bit_or}
 use Rattle.std.specs.Prelude.{◌==◌, if◌then◌else◌, unwrap_or}
-use Rattle.std.specs.Int.{bit_at, bit_not}
+use Rattle.std.specs.Int.{bit_not}
 use Rattle.std.specs.List.{list_any}
 use Rattle.std.specs.Map.{lookup}
 use Rattle.std.proofs.lemmas.Nat.Bits.{bit_at-zero, bit_at_set_same, bit_at_set_other, bit_at_clear_same, bit_at_clear_other}
@@ -23,6 +23,7 @@ one_changed old new place value here others = record {
       (cases_eq k place);
 }
 
+-- what `|` and `&` leave of a word, with the bit that is set or without the one that is cleared
 pub one_set : (word k : ℕ) → k < 64 → ChangesOne word (bit_or word (1 * 2 ^ k % 2 ^ 64)) k true
 one_set word k below =
     one_changed word (bit_or word (1 * 2 ^ k % 2 ^ 64)) k true
@@ -47,6 +48,7 @@ same_in_word b c place =
     ∙ sym (ne_eqb (c.bit % 64) (b.bit % 64) other))
     (cases_eq (c.bit % 64) (b.bit % 64))
 
+-- what passes a test of equality is the same
 pub same_is : (b c : DeviceBit) → same_bit b c ≡ true → b ≡ c
 same_is b c e =
     let parts = and_parts (b.frame == c.frame) (b.bit == c.bit) e in
@@ -54,8 +56,8 @@ same_is b c e =
     let numbers = eqb-true b.bit c.bit parts.1 in
     λ i. record { frame = frames i; bit = numbers i }
 
-same_itself : (p : WordPlace) → same_place p p ≡ true
-same_itself p = and_from (p.frame == p.frame) (p.number == p.number) (eq-eqb p.frame p.frame refl) (eq-eqb p.number p.number refl)
+place_is_itself : (p : WordPlace) → same_place p p ≡ true
+place_is_itself p = and_from (p.frame == p.frame) (p.number == p.number) (eq-eqb p.frame p.frame refl) (eq-eqb p.number p.number refl)
 
 -- the bits of words once one bit of one word has a value
 pub changed : (old new : List (WordPlace × ℕ)) (b : DeviceBit) (word : ℕ) (value : Bool) → AreApart old → AreApart new
@@ -77,7 +79,7 @@ changed old new b word value apart still one updates c =
         ∙ (λ i. if sym same i then value else kept i)
     by false e =
         let other : same_bit b c ≡ false = false_from_ne_true (same_bit b c)
-        (λ s. false≢true (sym e ∙ ap (λ d. same_place (place_of b) (place_of d)) (sym (same_is b c s)) ∙ same_itself (place_of b))) in
+        (λ s. false≢true (sym e ∙ ap (λ d. same_place (place_of b) (place_of d)) (sym (same_is b c s)) ∙ place_is_itself (place_of b))) in
         ap (λ o. has_bit (unwrap_or o 0) (c.bit % 64)) (updates (place_of c) ∙ ap (λ v. cond v (Some word) (lookup (same_place (place_of c)) old)) e)
         ∙ sym (told_by_word old c apart)
         ∙ sym (ap (λ v. if v then value else list_any (same_bit c) (bits_of_words old)) other)

@@ -1,12 +1,12 @@
 -- What the bits of words are.
-use Rattle.std.proofs.Common.{◌≡◌, ◌≢◌, ◌∙◌, ◌+◌, ◌-◌, ◌*◌, ◌/◌, ◌%◌, ◌<◌, ◌≤◌, ℕ, zero, suc, Bool, true, false, ◌&&◌, ◌||◌, cond, List, [], ◌∷◌, ◌++◌, Some, None, refl, sym, ap, subst, arith, ⊎_elim, eqb}
+use Rattle.std.proofs.Common.{◌≡◌, ◌≢◌, ◌∙◌, ◌+◌, ◌*◌, ◌/◌, ◌%◌, ◌<◌, ℕ, zero, suc, Bool, true, false, ◌&&◌, ◌||◌, cond, List, [], ◌∷◌, Some, None, refl, sym, ap, subst, arith, ⊎_elim}
 use Rattle.std.specs.Prelude.{◌==◌, if◌then◌else◌, unwrap_or}
 use Rattle.std.specs.List.{list_any, AllByRecursion}
 use Rattle.std.specs.Map.{lookup, keys_of}
 use Rattle.std.proofs.lemmas.List.Folds.{list_any-append}
 use Rattle.std.proofs.lemmas.Map.Keys.{IsDistinct-head, IsDistinct-tail}
 use Rattle.std.proofs.lemmas.Nat.Bits.{bit_at-zero}
-use Rattle.std.proofs.lemmas.Bool.{cases_eq, cases_Bool, and_parts, and_right, and_from, false≢true, eqb-true, ne_eqb, eq-eqb, false_from_ne_true}
+use Rattle.std.proofs.lemmas.Bool.{cases_eq, and_parts, and_right, and_from, false≢true, eqb-true, ne_eqb, eq-eqb, false_from_ne_true}
 use Rattle.patterns.specs.Bits.{DeviceBit, same_bit}
 use Rattle.cram_image.specs.declared.word.WordPlace.{WordPlace}
 use Rattle.cram_image.specs.Words.{same_place, place_of, word_at, AreApart, has_bit, bit_in, ones_below, bits_of_words}
@@ -23,6 +23,7 @@ same_number place k =
     let bits = eq-eqb (64 * place.number + k) (64 * place.number + k) refl in
     λ i. frames i && bits i
 
+-- nothing is added by what is false
 or_false : (v : Bool) → (v || false) ≡ v
 or_false true = refl
 or_false false = refl
@@ -89,6 +90,7 @@ other_place b place k below other =
     let numbers : b.bit / 64 ≡ place.number = omega arith in
     false≢true (sym other ∙ and_from (b.frame == place.frame) (b.bit / 64 == place.number) (eq-eqb b.frame place.frame frames) (eq-eqb (b.bit / 64) place.number numbers)))
 
+-- no bit of 0 is 1
 no_bit_in_zero : (k : ℕ) → has_bit 0 k ≡ false
 no_bit_in_zero k = ap (λ n. n == 1) (bit_at-zero k)
 

@@ -21,6 +21,7 @@ word_at words place = unwrap_or (lookup (same_place place) words) 0
 abbrev pub AreApart : List (WordPlace × ℕ) → Type 0
 AreApart words = IsDistinct same_place (keys_of words)
 
+-- the bit of a word with this number is 1
 abbrev pub has_bit : ℕ → ℕ → Bool
 has_bit word k = bit_at word k == 1
 
@@ -32,13 +33,13 @@ pub record ChangesOne (old new place : ℕ) (value : Bool) : Type 0 where
 abbrev pub bit_in : WordPlace → ℕ → DeviceBit
 bit_in place k = record { frame = place.frame; bit = 64 * place.number + k }
 
--- the bits that are 1 of the first of a word
+-- of the first bits of a word, as many as `count`, those that are 1
 unfoldable pub ones_below : WordPlace → ℕ → ℕ → List DeviceBit
 ones_below place word zero = []
 ones_below place word (suc k) =
     if has_bit word k then bit_in place k ∷ ones_below place word k else ones_below place word k
 
--- the bits that are 1
+-- the device bits that are 1
 abbrev pub bits_of_words : List (WordPlace × ℕ) → List DeviceBit
 bits_of_words [] = []
 bits_of_words (w ∷ ws) = ones_below w.0 w.1 64 ++ bits_of_words ws

@@ -15,8 +15,8 @@ use std::marker::Model;
 use text_cut::PatternBit;
 use tile_grid::Tile;
 
-/// The set of the device bits that are 1. Contracts see a list of them without repeats, and speak of the test of its
-/// members, `bits`.
+/// The set of the device bits that are 1. Contracts see a list of them, and speak of the test of its members, `bits`.
+/// A test of a bit is one look-up under a hash; memory grows with the words of 64 bits that were ever set.
 #[derive(Drop)]
 pub struct Image {
     words: Words,
@@ -61,6 +61,7 @@ impl Image {
         self.words.insert(place, with_one(word, b))?;
         Ok(())
     }
+
     /// Makes a bit 0; takes no memory.
     pub fn clear(&mut self, b: DeviceBit)
         ensures { (c : Bit) → bits self.new c ≡ with_bit (bits self.old) b false c }
@@ -70,6 +71,7 @@ impl Image {
         };
         *word = with_zero(*word, b);
     }
+
     /// Whether a pattern fits at a tile: each of its plain bits is 1 and each of its `!` bits 0. Takes no memory.
     pub fn fits(&self, pattern: &[PatternBit], tile: &Tile) -> bool
         ensures { result ≡ fits_of (bits self.now) (origin_of tile.now) pattern.now }

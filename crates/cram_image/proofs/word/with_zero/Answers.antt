@@ -1,4 +1,4 @@
-use Rattle.std.proofs.Common.{◌*◌, ◌^◌, ◌%◌, false, sym, subst, ap, arith, w64, bit_and}
+use Rattle.std.proofs.Common.{◌*◌, ◌^◌, ◌%◌, false, subst, ap, arith, w64, bit_and}
 use Rattle.std.specs.Int.{bit_not}
 use Rattle.cram_image.specs.Words.{ChangesOne}
 use Rattle.cram_image.proofs.Changes.{one_cleared}
