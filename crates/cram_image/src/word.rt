@@ -5,12 +5,29 @@ ghost use Rattle.cram_image.specs.Words.{ChangesOne, has_bit as has_bit_of, plac
 
 use indexmap::IndexMap;
 use rr_ids::DeviceBit;
+use std::hash::{Hash, Hasher};
 
 /// The place of a word: its frame, and how many words stand before it in the frame.
-#[derive(Clone, Copy, PartialEq, Eq, Hash)]
+#[derive(Clone, Copy, PartialEq, Eq)]
 pub(crate) struct WordPlace {
     frame: u32,
     number: u32,
+}
+
+// The two numbers are hashed as one, which takes about half the time of one after the other.
+impl Hash for WordPlace {
+    ghost use Rattle.std.specs.Prelude.{◌*◌, ◌%◌, ◌^◌, bit_or};
+    ghost use Rattle.std.specs.Hash as fed;
+    ghost use Rattle.std.specs.Cmp.Rules.{hashing};
+    ghost use Rattle.std.proofs.Common.{rules};
+
+    ghost hash_input = { λ p. fed.u64 (bit_or (p.frame * 2 ^ 32 % 2 ^ 64) p.number) };
+
+    ghost respects_eq = { Prim.search (hashing, rules) };
+
+    fn hash<H: Hasher>(&self, state: &mut H) {
+        state.write_u64(u64::from(self.frame) << 32 | u64::from(self.number));
+    }
 }
 
 /// Words under their places. Where none is kept the word is 0.
