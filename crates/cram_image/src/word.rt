@@ -14,7 +14,7 @@ pub(crate) struct WordPlace {
     number: u32,
 }
 
-// The two numbers are hashed as one, which takes about half the time of one after the other.
+// The two numbers are hashed as one, so that a look-up hashes once.
 impl Hash for WordPlace {
     ghost use Rattle.std.specs.Prelude.{◌*◌, ◌%◌, ◌^◌, bit_or};
     ghost use Rattle.std.specs.Hash as fed;
