@@ -7,7 +7,7 @@ use crate::Choice;
 use crate::choices::choice_member;
 use crate::takes::Purpose;
 use json_values::{
-    FormError, FromJson, list_member, member_as, name, name_or_empty_member, pair, triple,
+    FormError, FromJson, list_member_as, member_as, name, name_or_empty_member, pair, triple,
 };
 use rr_ids::{List, Name};
 use serde_json::Value;
@@ -107,7 +107,7 @@ impl FromJson for TableKind {
     #[tactic(auto, unfolding(json_forms::specs::Kinds::table_in))]
     fn from_json(alloc: Global, value: &Value) -> Result<TableKind, FormError> {
         let word = member_as::<Name>(alloc, value, "word")?;
-        let pins = list_member::<Name>(alloc, value, "pins")?;
+        let pins = list_member_as::<Name>(alloc, value, "pins")?;
         let out = member_as::<Name>(alloc, value, "out")?;
         if !is_pin_count(pins.len()) {
             return Err(FormError::Unfit);
@@ -186,10 +186,10 @@ impl FromJson for SliceKind {
             tile: member_as::<Name>(alloc, value, "tile")?,
             name: member_as::<Name>(alloc, value, "name")?,
             shape: member_as::<Name>(alloc, value, "shape")?,
-            settings: list_member::<Name>(alloc, value, "settings")?,
-            require: list_member::<Require>(alloc, value, "require")?,
-            tables: list_member::<TableKind>(alloc, value, "tables")?,
-            registers: list_member::<RegisterKind>(alloc, value, "registers")?,
+            settings: list_member_as::<Name>(alloc, value, "settings")?,
+            require: list_member_as::<Require>(alloc, value, "require")?,
+            tables: list_member_as::<TableKind>(alloc, value, "tables")?,
+            registers: list_member_as::<RegisterKind>(alloc, value, "registers")?,
         })
     }
 }
@@ -224,7 +224,7 @@ impl FromJson for PadKind {
         Ok(PadKind {
             tile: member_as::<Name>(alloc, value, "tile")?,
             name: member_as::<Name>(alloc, value, "name")?,
-            settings: list_member::<Name>(alloc, value, "settings")?,
+            settings: list_member_as::<Name>(alloc, value, "settings")?,
             mode: choice_member(alloc, Purpose::Mode, value, "mode")?,
             in_wire: name_or_empty_member(alloc, value, "in")?,
             out_wire: name_or_empty_member(alloc, value, "out")?,

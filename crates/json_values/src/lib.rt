@@ -10,7 +10,7 @@ ghost use Rattle.json_values.specs.Reads.{Reads};
 
 mod lists;
 
-pub use lists::{FromJson, list, list_member, member_as, pair, triple};
+pub use lists::{FromJson, list, list_member_as, member_as, pair, triple};
 use rr_ids::{Name, NameError};
 use serde_json::Value;
 use std::alloc::{AllocError, AllocFailed, Global};

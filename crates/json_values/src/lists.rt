@@ -55,7 +55,7 @@ pub fn member_as<T: FromJson>(alloc: Global, object: &Value, name: &str) -> Resu
 }
 
 /// The list that the member of a name stands for; `Unfit` where there is none, or it has another form.
-pub fn list_member<T: FromJson>(
+pub fn list_member_as<T: FromJson>(
     alloc: Global,
     object: &Value,
     name: &str,
