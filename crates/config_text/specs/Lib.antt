@@ -1,0 +1,4 @@
+pub mod Faults
+pub mod Sayings
+pub mod LineByLine
+pub mod Known

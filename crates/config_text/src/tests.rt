@@ -1,0 +1,131 @@
+//! Worked cases of the reader and the printer.
+
+use super::*;
+use std::test::Fail;
+
+const TOGGLE: &str = "\
+.device MINI-A
+
+.tile R0C1:MIO
+arc: PO S1_Q
+enum: P0.DIR OUTPUT
+
+.tile R0C2:MIO
+arc: PO S1_Q
+enum: P0.DIR OUTPUT
+
+.tile R0C3:MIO
+arc: PO S1_Q
+enum: P0.DIR OUTPUT
+
+.tile R1C1:MLC
+arc: A H0
+arc: B H1
+arc: C H2
+arc: CK G_CK0
+arc: H0 E1_H0
+arc: H1 Q
+arc: H2 E1_H2
+word: S0.K 0001011100010111
+
+.tile R1C2:MLC
+arc: A H0
+arc: B H1
+arc: C H2
+arc: CK G_CK1
+arc: H0 E1_H0
+arc: H1 W1_H1
+arc: H2 Q
+word: S0.K 0001011100010111
+
+.tile R1C3:MLC
+arc: A H0
+arc: B H1
+arc: C H2
+arc: CK G_CK2
+arc: H0 Q
+arc: H1 W1_H1
+arc: H2 W1_H2
+word: S0.K 0001011100010111
+
+.tile R2C1:MCK
+arc: G_CK0 KI
+enum: K0.DIR INPUT
+
+.tile R2C2:MCK
+arc: G_CK1 KI
+enum: K0.DIR INPUT
+
+.tile R2C3:MCK
+arc: G_CK2 KI
+enum: K0.DIR INPUT
+";
+
+const LOOSE: &str = "\
+.device MINI-A
+.comment Part: MINI
+.sysconfig CONFIG_IOVOLTAGE 3.3
+.tile R1C2:MLC
+unknown: F10B2
+arc: H1 W1_H1
+arc: A-B C
+# remark
+arc: A H0
+arc: H1 W1_H1
+.tile R1C1:MLC
+enum: S0.MODE LOGIC
+word: S0.K 0111
+.tile R1C0:MLC
+";
+
+const WRITTEN: &str = "\
+.device MINI-A
+.comment Part: MINI
+.sysconfig CONFIG_IOVOLTAGE 3.3
+
+.tile R1C1:MLC
+word: S0.K 0111
+enum: S0.MODE LOGIC
+
+.tile R1C2:MLC
+arc: A H0
+arc: A-B C
+arc: H1 W1_H1
+unknown: F10B2
+";
+
+// Texts that are read, and how they and their copies are printed.
+#[test]
+fn prints_what_is_read(rt: HostRuntime) -> Result<(), Fail> {
+    let alloc = rt.alloc();
+    for (text, want) in [(TOGGLE, TOGGLE), (LOOSE, WRITTEN)] {
+        let Ok(config) = read(alloc, text.as_bytes()) else {
+            panic!(rt; "not read: {text}");
+        };
+        assert_eq!(rt; print(alloc, &config)?.as_slice(), want.as_bytes(), "{text}");
+        let copied = config.copy(alloc)?;
+        assert_eq!(rt; print(alloc, &copied)?.as_slice(), want.as_bytes(), "{text}");
+    }
+    Ok(())
+}
+
+#[test]
+fn refuses(rt: HostRuntime) {
+    let alloc = rt.alloc();
+    for (text, want) in [
+        ("", ConfigError::NoDevice),
+        (".tile A\narc: B\n", ConfigError::BadLine(2)),
+        (".device A\n.tile_group R1C1:MLC\n", ConfigError::OutsideBlock(2)),
+        (".device A\n.device A\n", ConfigError::BadLine(2)),
+        (".tile A\n\n.tile B\n.tile A\n", ConfigError::BadLine(4)),
+        (".device A\narc: B C\n.tile A\n", ConfigError::BadLine(2)),
+        (".device A\n.tile A\nword: S0.K 012\n", ConfigError::BadLine(3)),
+        (".device A\n.tile A\nunknown: !F0B0\n", ConfigError::BadLine(3)),
+        (".device A\n.tile A\narc: B\r C\n", ConfigError::BadLine(3)),
+    ] {
+        match read(alloc, text.as_bytes()) {
+            Ok(_) => panic!(rt; "read: {text}"),
+            Err(got) => assert_eq!(rt; got, want, "{text}"),
+        }
+    }
+}
