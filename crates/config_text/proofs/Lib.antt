@@ -1,0 +1,4 @@
+pub mod Blanks
+pub mod Bits
+pub mod Devices
+pub mod Lines

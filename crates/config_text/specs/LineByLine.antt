@@ -38,6 +38,9 @@ line_behind n OutsideLine t = t
 -- sections with what one more line says
 abbrev pub sections_with : ℕ → Option ConfigLine → List TileText → List TileText
 sections_with n None ts = ts
+sections_with n (Some (DeviceLine name)) ts = ts
+sections_with n (Some (HeadLine text)) ts = ts
+sections_with n (Some OutsideLine) ts = ts
 sections_with n (Some (TileLine name)) ts = ts ++ no_lines n name ∷ []
 sections_with n (Some line) ts = with_last (line_behind n line) ts
 

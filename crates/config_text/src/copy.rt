@@ -11,7 +11,9 @@ fn copy_heads(alloc: Global, heads: &[Head]) -> Result<List<Head>, AllocError>
 {
     let mut copied = List::new(alloc);
     for head in heads {
-        copied.push(Head { text: head.text.copy()? })?;
+        copied.push(Head {
+            text: head.text.copy()?,
+        })?;
     }
     Ok(copied)
 }

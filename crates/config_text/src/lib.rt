@@ -16,14 +16,14 @@ use text_cut::lines;
 mod copy;
 mod errors;
 mod order;
-mod print;
+mod printer;
 mod reader;
 mod says;
 mod sections;
 mod types;
 
 pub use errors::ConfigError;
-pub use print::print;
+pub use printer::print;
 pub use types::{ArcLine, Config, EnumLine, Head, TileText, UnknownLine, WordLine};
 
 #[cfg(test)]
@@ -43,6 +43,7 @@ fn read_all<'a>(alloc: Global, bytes: &'a [u8]) -> Result<Reader<'a>, ConfigErro
 
 /// Reads a configuration: sections in byte order of their tiles, the arcs of each in byte order of their lines, and of
 /// repeated arcs the first. Of faults the first line's counts, and that no line names the device comes last.
+#[tactic(auto, using(crate::proofs::Lines::read_by_lines))]
 pub fn read(alloc: Global, bytes: &[u8]) -> Result<Config, ConfigError>
     ensures { OrMemory (λ config. config) fault_of result (configuration_of bytes.now) }
 {

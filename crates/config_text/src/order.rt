@@ -15,8 +15,7 @@ use std::collections::BTreeMap;
 type ArcNumbers = BTreeMap<(Name, Name), u32>;
 
 // The numbers of the lines of arcs: of equal lines that of the first.
-fn numbers_of(alloc: Global, arcs: List<ArcLine>) -> Result<ArcNumbers, AllocError>
-{
+fn numbers_of(alloc: Global, arcs: List<ArcLine>) -> Result<ArcNumbers, AllocError> {
     let mut numbers = ArcNumbers::new(alloc);
     let mut left = arcs;
     while let Some(ArcLine { sink, source, line }) = left.pop() {
@@ -26,8 +25,7 @@ fn numbers_of(alloc: Global, arcs: List<ArcLine>) -> Result<ArcNumbers, AllocErr
 }
 
 // The arcs of these numbers.
-fn arcs_of(alloc: Global, numbers: ArcNumbers) -> Result<List<ArcLine>, AllocError>
-{
+fn arcs_of(alloc: Global, numbers: ArcNumbers) -> Result<List<ArcLine>, AllocError> {
     let mut arcs = List::new(alloc);
     for ((sink, source), line) in numbers {
         arcs.push(ArcLine { sink, source, line })?;
@@ -68,8 +66,7 @@ fn section_in_order(alloc: Global, section: TileText) -> Result<TileText, AllocE
 fn sections_by_tile(
     alloc: Global,
     sections: List<TileText>,
-) -> Result<BTreeMap<Name, TileText>, AllocError>
-{
+) -> Result<BTreeMap<Name, TileText>, AllocError> {
     let mut by_tile = BTreeMap::new(alloc);
     let mut left = sections;
     while let Some(section) = left.pop() {

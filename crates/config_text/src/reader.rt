@@ -1,12 +1,13 @@
 //! The reader, line by line.
 
-ghost use Rattle.std.specs.Prelude.{◌≡◌, ◌∷◌, [], OnOk};
+ghost use Rattle.std.specs.Prelude.{◌≡◌, ◌∷◌, ◌++◌, [], true, OnOk, Ok as Done, Some as Present};
 ghost use Rattle.words.specs.OrMemory.{OrMemory};
+ghost use Rattle.texts.specs.Names.{is_name};
+ghost use Rattle.config_grammar.specs.ConfigLines.{DeviceLine};
 ghost use Rattle.config_text.specs.Faults.{fault_of};
 ghost use Rattle.config_text.specs.Sayings.{saying_view, AreNames};
 ghost use Rattle.config_text.specs.LineByLine.{nothing_read, with_says, fault_behind, or_fault, line_step, config_read};
 ghost use Rattle.config_text.specs.Known.{KnowsItsTiles, reading_view};
-ghost use Rattle.std.specs.Prelude.{Some as Present};
 ghost use Rattle.text_cut.specs.Lent.{line_view};
 
 use super::order::sections_in_order;
@@ -63,7 +64,14 @@ impl<'a> Reader<'a> {
     }
 
     // Names the device.
-    fn add_device(&mut self, number: u32, name: &'a [u8]) -> Result<(), ConfigError> {
+    fn add_device(&mut self, number: u32, name: &'a [u8]) -> Result<(), ConfigError>
+        requires name { is_name name.now ≡ true }
+        requires known { KnowsItsTiles self.old.sections }
+        ensures step { let said = Present (DeviceLine name.now) in
+            OrMemory (λ _. reading_view self.new) fault_of result
+            (or_fault (fault_behind number (reading_view self.old) said) (with_says number said (reading_view self.old))) }
+        ensures known { OnOk result (KnowsItsTiles self.new.sections) }
+    {
         if self.device.is_some() {
             return Err(ConfigError::BadLine(number));
         }
@@ -72,7 +80,12 @@ impl<'a> Reader<'a> {
     }
 
     // Adds a head.
-    fn add_head(&mut self, text: &'a [u8]) -> Result<(), ConfigError> {
+    fn add_head(&mut self, text: &'a [u8]) -> Result<(), ConfigError>
+        requires { KnowsItsTiles self.old.sections }
+        ensures step { OrMemory (λ _. reading_view self.new) fault_of result
+            (Done (record { devices = (reading_view self.old).devices; heads = self.old.heads ++ record { text = text.now } ∷ []; sections = (reading_view self.old).sections })) }
+        ensures known { OnOk result (KnowsItsTiles self.new.sections) }
+    {
         let text = Text::new(self.alloc, text)?;
         self.heads.push(Head { text })?;
         Ok(())

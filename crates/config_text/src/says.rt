@@ -47,6 +47,7 @@ fn is_blank(byte: u8) -> bool
 }
 
 // What stands behind blanks.
+#[tactic(auto, using(crate::proofs::Blanks::blank_first, crate::proofs::Blanks::other_first))]
 fn behind_blanks(text: &[u8]) -> &[u8]
     ensures { result.now ≡ grammar.behind_blanks text.now }
 {
@@ -61,6 +62,7 @@ fn behind_blanks(text: &[u8]) -> &[u8]
 }
 
 // The text without blanks at its end.
+#[tactic(auto, using(crate::proofs::Blanks::blank_last, crate::proofs::Blanks::other_last))]
 fn before_blanks(text: &[u8]) -> &[u8]
     ensures { result.now ≡ reverse (grammar.behind_blanks (reverse text.now)) }
 {
@@ -150,13 +152,25 @@ fn says_two<'a>(text: &'a [u8], first: &[u8], second: &'a [u8]) -> Option<Saying
     ensures names { IfSome result AreNames }
 {
     if first == b".device".as_slice() {
-        return if is_name(second) { Some(Saying::Device(second)) } else { None };
+        return if is_name(second) {
+            Some(Saying::Device(second))
+        } else {
+            None
+        };
     }
     if first == b".variant".as_slice() {
-        return if is_name(second) { Some(Saying::Head(without_blanks(text))) } else { None };
+        return if is_name(second) {
+            Some(Saying::Head(without_blanks(text)))
+        } else {
+            None
+        };
     }
     if first == b".tile".as_slice() {
-        return if is_name(second) { Some(Saying::Tile(second)) } else { None };
+        return if is_name(second) {
+            Some(Saying::Tile(second))
+        } else {
+            None
+        };
     }
     if first == b"unknown:".as_slice() {
         return unknown_of(second);

@@ -1,6 +1,6 @@
 //! The sections of a reading.
 
-ghost use Rattle.std.specs.Prelude.{◌≡◌, ◌∷◌, ◌++◌, [], true, map, IfOk, OnOk};
+ghost use Rattle.std.specs.Prelude.{◌≡◌, ◌∷◌, ◌++◌, ◌==◌, [], true, map, IfOk, OnOk};
 ghost use Rattle.words.specs.OrMemory.{OrMemory};
 ghost use Rattle.texts.specs.Names.{is_name};
 ghost use Rattle.config_grammar.specs.ConfigLines.{bits_of_digits};
@@ -41,11 +41,20 @@ pub(crate) fn name_of(alloc: Global, bytes: &[u8]) -> Result<Name, AllocError>
     }
 }
 
+// Whether each digit is a one.
+fn ones_of(alloc: Global, digits: &[u8]) -> Result<Vec<bool>, AllocError>
+    ensures { IfOk result (λ ones. ones.items ≡ map (λ d. d == 49) digits.now) }
+{
+    digits.iter().map(|d| *d == b'1').collect(alloc)
+}
+
 // The bits of digits, the last digit first.
+
 fn bits_of(alloc: Global, digits: &[u8]) -> Result<List<bool>, AllocError>
     ensures { IfOk result (λ bits. bits ≡ bits_of_digits digits.now) }
 {
-    let bits: Vec<bool> = digits.iter().rev().map(|d| *d == b'1').collect(alloc)?;
+    let mut bits = ones_of(alloc, digits)?;
+    bits.reverse();
     Ok(List::from_vec(bits))
 }
 
@@ -78,19 +87,35 @@ fn add_line_to(
         InTile::Arc(sink, source) => {
             let sink = name_of(alloc, sink)?;
             let source = name_of(alloc, source)?;
-            section.arcs.push(ArcLine { sink, source, line: number })
+            section.arcs.push(ArcLine {
+                sink,
+                source,
+                line: number,
+            })
         }
         InTile::Word(name, digits) => {
             let name = name_of(alloc, name)?;
             let bits = bits_of(alloc, digits)?;
-            section.words.push(WordLine { name, bits, line: number })
+            section.words.push(WordLine {
+                name,
+                bits,
+                line: number,
+            })
         }
         InTile::Enum(name, value) => {
             let name = name_of(alloc, name)?;
             let value = name_of(alloc, value)?;
-            section.enums.push(EnumLine { name, value, line: number })
+            section.enums.push(EnumLine {
+                name,
+                value,
+                line: number,
+            })
         }
-        InTile::Unknown(frame, bit) => section.unknowns.push(UnknownLine { frame, bit, line: number }),
+        InTile::Unknown(frame, bit) => section.unknowns.push(UnknownLine {
+            frame,
+            bit,
+            line: number,
+        }),
     }
 }
 
@@ -129,7 +154,8 @@ impl<'a> Sections<'a> {
         if self.sections.len() >= MOST_SECTIONS {
             return Err(ConfigError::TooLarge(Limit::Tiles));
         }
-        self.sections.push(empty_section(self.alloc, number, tile)?)?;
+        self.sections
+            .push(empty_section(self.alloc, number, tile)?)?;
         Ok(())
     }
 

@@ -102,9 +102,17 @@ fn prints_what_is_read(rt: HostRuntime) -> Result<(), Fail> {
         let Ok(config) = read(alloc, text.as_bytes()) else {
             panic!(rt; "not read: {text}");
         };
-        assert_eq!(rt; print(alloc, &config)?.as_slice(), want.as_bytes(), "{text}");
+        assert_eq!(rt;
+            print(alloc, &config)?.as_slice(),
+            want.as_bytes(),
+            "{text}"
+        );
         let copied = config.copy(alloc)?;
-        assert_eq!(rt; print(alloc, &copied)?.as_slice(), want.as_bytes(), "{text}");
+        assert_eq!(rt;
+            print(alloc, &copied)?.as_slice(),
+            want.as_bytes(),
+            "{text}"
+        );
     }
     Ok(())
 }
@@ -115,12 +123,21 @@ fn refuses(rt: HostRuntime) {
     for (text, want) in [
         ("", ConfigError::NoDevice),
         (".tile A\narc: B\n", ConfigError::BadLine(2)),
-        (".device A\n.tile_group R1C1:MLC\n", ConfigError::OutsideBlock(2)),
+        (
+            ".device A\n.tile_group R1C1:MLC\n",
+            ConfigError::OutsideBlock(2),
+        ),
         (".device A\n.device A\n", ConfigError::BadLine(2)),
         (".tile A\n\n.tile B\n.tile A\n", ConfigError::BadLine(4)),
         (".device A\narc: B C\n.tile A\n", ConfigError::BadLine(2)),
-        (".device A\n.tile A\nword: S0.K 012\n", ConfigError::BadLine(3)),
-        (".device A\n.tile A\nunknown: !F0B0\n", ConfigError::BadLine(3)),
+        (
+            ".device A\n.tile A\nword: S0.K 012\n",
+            ConfigError::BadLine(3),
+        ),
+        (
+            ".device A\n.tile A\nunknown: !F0B0\n",
+            ConfigError::BadLine(3),
+        ),
         (".device A\n.tile A\narc: B\r C\n", ConfigError::BadLine(3)),
     ] {
         match read(alloc, text.as_bytes()) {

@@ -57,7 +57,10 @@ fn push_arcs(text: &mut Vec<u8>, arcs: &[ArcLine]) -> Result<(), AllocError>
 fn digits_of(alloc: Global, bits: &[bool]) -> Result<Vec<u8>, AllocError>
     ensures { IfOk result (λ digits. digits.items ≡ printed.digits_text bits.now) }
 {
-    bits.iter().rev().map(|bit| if *bit { b'1' } else { b'0' }).collect(alloc)
+    bits.iter()
+        .rev()
+        .map(|bit| if *bit { b'1' } else { b'0' })
+        .collect(alloc)
 }
 
 // Adds the lines of words.
@@ -96,9 +99,11 @@ fn push_unknowns(text: &mut Vec<u8>, unknowns: &[UnknownLine]) -> Result<(), All
 }
 
 // Whether a section has no lines.
-fn is_empty(section: &TileText) -> bool
-{
-    section.arcs.is_empty() && section.words.is_empty() && section.enums.is_empty() && section.unknowns.is_empty()
+fn is_empty(section: &TileText) -> bool {
+    section.arcs.is_empty()
+        && section.words.is_empty()
+        && section.enums.is_empty()
+        && section.unknowns.is_empty()
 }
 
 // Adds a section, or nothing where it has no lines.
