@@ -1,4 +1,6 @@
 pub mod Blanks
 pub mod Bits
 pub mod Devices
+pub mod Tiles
+pub mod Whole
 pub mod Lines
