@@ -2,3 +2,4 @@ pub mod Faults
 pub mod Sayings
 pub mod LineByLine
 pub mod Known
+pub mod Entries

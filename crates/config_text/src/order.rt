@@ -1,12 +1,13 @@
 //! Sections and arcs in written order.
 
-ghost use Rattle.std.specs.Prelude.{◌≡◌, map, IfOk};
+ghost use Rattle.std.specs.Prelude.{◌≡◌, map, IfOk, OnOk};
 ghost use Rattle.config_grammar.specs.ConfigText.{arc_key, section_in_order as section_in_order_of};
-ghost use Rattle.config_grammar.specs.Ordered.{in_order, in_order_once};
+ghost use Rattle.config_grammar.specs.Ordered.{in_order, in_order_once, put_once};
+ghost use Rattle.config_text.specs.Entries.{arcs_at, AreSinks};
 ghost use Rattle.config_text.specs.Known.{NoTileTwice};
 
 use super::{ArcLine, TileText};
-use rr_ids::{List, Name};
+use rr_ids::{List, Name, is_name};
 use std::alloc::{AllocError, Global};
 use std::collections::BTreeMap;
 
@@ -14,18 +15,35 @@ use std::collections::BTreeMap;
 // of pairs is that of lines.
 type ArcNumbers = BTreeMap<(Name, Name), u32>;
 
+// Adds the number of an arc's line, in place of that of an equal line.
+fn add_number(numbers: &mut ArcNumbers, arc: ArcLine) -> Result<(), AllocError>
+    requires { AreSinks numbers.old.entries }
+    ensures arcs { OnOk result (arcs_at numbers.new.entries ≡ put_once arc_key arc (arcs_at numbers.old.entries)) }
+    ensures sinks { OnOk result (AreSinks numbers.new.entries) }
+{
+    let ArcLine { sink, source, line } = arc;
+    prove!(is_name(sink.bytes()));
+    numbers.insert((sink, source), line)?;
+    Ok(())
+}
+
 // The numbers of the lines of arcs: of equal lines that of the first.
-fn numbers_of(alloc: Global, arcs: List<ArcLine>) -> Result<ArcNumbers, AllocError> {
+#[tactic(auto, using(crate::proofs::Arcs::put_last, crate::proofs::Arcs::put_all_once))]
+fn numbers_of(alloc: Global, arcs: List<ArcLine>) -> Result<ArcNumbers, AllocError>
+    ensures { IfOk result (λ numbers. arcs_at numbers.entries ≡ in_order_once arc_key arcs) }
+{
     let mut numbers = ArcNumbers::new(alloc);
     let mut left = arcs;
-    while let Some(ArcLine { sink, source, line }) = left.pop() {
-        numbers.insert((sink, source), line)?;
+    while let Some(arc) = left.pop() {
+        add_number(&mut numbers, arc)?;
     }
     Ok(numbers)
 }
 
 // The arcs of these numbers.
-fn arcs_of(alloc: Global, numbers: ArcNumbers) -> Result<List<ArcLine>, AllocError> {
+fn arcs_of(alloc: Global, numbers: ArcNumbers) -> Result<List<ArcLine>, AllocError>
+    ensures { IfOk result (λ arcs. arcs ≡ arcs_at numbers.entries) }
+{
     let mut arcs = List::new(alloc);
     for ((sink, source), line) in numbers {
         arcs.push(ArcLine { sink, source, line })?;
