@@ -5,4 +5,5 @@ pub mod Tiles
 pub mod Whole
 pub mod Keys
 pub mod Arcs
+pub mod Ordered
 pub mod Lines

@@ -18,11 +18,11 @@ or_cond true false = refl
 or_cond false true = refl
 or_cond false false = refl
 
-first_false : (a b : Bool) → a || b ≡ false → a ≡ false
+pub first_false : (a b : Bool) → a || b ≡ false → a ≡ false
 first_false true b h = absurd (let no : ⊥ = cc in no)
 first_false false b h = refl
 
-second_false : (a b : Bool) → a || b ≡ false → b ≡ false
+pub second_false : (a b : Bool) → a || b ≡ false → b ≡ false
 second_false true b h = absurd (let no : ⊥ = cc in no)
 second_false false b h = h
 

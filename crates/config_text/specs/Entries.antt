@@ -1,8 +1,7 @@
--- What the entries of the maps that put arcs in order stand for.
+-- What the entries of the maps that put arcs and sections in order stand for.
 use Rattle.std.specs.Prelude.{◌≡◌, ℕ, List, [], ◌∷◌, true, map}
-use Rattle.std.specs.BTreeMap.{BTreeMap}
 use Rattle.texts.specs.Names.{is_name}
-use Rattle.records.specs.Config.{ArcLine}
+use Rattle.records.specs.Config.{ArcLine, TileText}
 
 -- the arc of a sink, a source and the number of its line
 abbrev pub arc_at : (List ℕ × List ℕ) × ℕ → ArcLine
@@ -16,3 +15,7 @@ arcs_at entries = map arc_at entries
 abbrev pub AreSinks : List ((List ℕ × List ℕ) × ℕ) → Type 0
 AreSinks [] = Unit {0}
 AreSinks (entry ∷ entries) = (is_name entry.0.0 ≡ true) × AreSinks entries
+
+-- sections under the names of their tiles
+abbrev pub tile_entries : List TileText → List (List ℕ × TileText)
+tile_entries ts = map (λ t. (t.tile, t)) ts

@@ -1,9 +1,11 @@
 //! Sections and arcs in written order.
 
-ghost use Rattle.std.specs.Prelude.{◌≡◌, map, IfOk, OnOk};
-ghost use Rattle.config_grammar.specs.ConfigText.{arc_key, section_in_order as section_in_order_of};
-ghost use Rattle.config_grammar.specs.Ordered.{in_order, in_order_once, put_once};
-ghost use Rattle.config_text.specs.Entries.{arcs_at, AreSinks};
+ghost use Rattle.std.specs.Prelude.{◌≡◌, List as Seq, false, map, IfOk, OnOk};
+ghost use Rattle.std.specs.BTreeMap.{values};
+ghost use Rattle.records.specs.Config.{TileText as TileRecord};
+ghost use Rattle.config_grammar.specs.ConfigText.{arc_key, has_tile, section_in_order as section_in_order_of};
+ghost use Rattle.config_grammar.specs.Ordered.{in_order, in_order_once, put_in_order, put_once};
+ghost use Rattle.config_text.specs.Entries.{arcs_at, AreSinks, tile_entries};
 ghost use Rattle.config_text.specs.Known.{NoTileTwice};
 
 use super::{ArcLine, TileText};
@@ -80,17 +82,41 @@ fn section_in_order(alloc: Global, section: TileText) -> Result<TileText, AllocE
     })
 }
 
+// Adds a section to those of other tiles.
+fn add_section(by_tile: &mut BTreeMap<Name, TileText>, section: TileText) -> Result<(), AllocError>
+    ensures { (others : Seq TileRecord) → by_tile.old.entries ≡ tile_entries others → has_tile others section.tile ≡ false
+        → OnOk result (by_tile.new.entries ≡ tile_entries (put_in_order (λ t. t.tile) section others)) }
+{
+    by_tile.insert(section.tile.copy()?, section)?;
+    Ok(())
+}
+
 // The sections by their tiles, the arcs of each in order.
 fn sections_by_tile(
     alloc: Global,
     sections: List<TileText>,
-) -> Result<BTreeMap<Name, TileText>, AllocError> {
+) -> Result<BTreeMap<Name, TileText>, AllocError>
+    requires { NoTileTwice sections }
+    ensures { IfOk result (λ by_tile. by_tile.entries ≡ tile_entries (in_order (λ t. t.tile) (map section_in_order_of sections))) }
+{
     let mut by_tile = BTreeMap::new(alloc);
     let mut left = sections;
     while let Some(section) = left.pop() {
-        by_tile.insert(section.tile.copy()?, section_in_order(alloc, section)?)?;
+        let section = section_in_order(alloc, section)?;
+        add_section(&mut by_tile, section)?;
     }
     Ok(by_tile)
+}
+
+// The sections of a map, in its order.
+fn sections_of(alloc: Global, by_tile: BTreeMap<Name, TileText>) -> Result<List<TileText>, AllocError>
+    ensures { IfOk result (λ sections. sections ≡ values by_tile) }
+{
+    let mut sections = List::new(alloc);
+    for section in by_tile.into_values() {
+        sections.push(section)?;
+    }
+    Ok(sections)
 }
 
 /// The sections in byte order of their tiles' names, with the arcs of each in byte order of their lines and of equal ones
@@ -102,9 +128,5 @@ pub(crate) fn sections_in_order(
     requires { NoTileTwice sections }
     ensures { IfOk result (λ ordered. ordered ≡ in_order (λ t. t.tile) (map section_in_order_of sections)) }
 {
-    let mut ordered = List::new(alloc);
-    for section in sections_by_tile(alloc, sections)?.into_values() {
-        ordered.push(section)?;
-    }
-    Ok(ordered)
+    sections_of(alloc, sections_by_tile(alloc, sections)?)
 }
