@@ -45,10 +45,11 @@ tiles_with_one ts t old new key same held updated q =
 
 once_more : (ts : List TileText) (t : TileText) → NoTileTwice ts → has_tile ts t.tile ≡ false → NoTileTwice (ts ++ t ∷ [])
 once_more [] t once new = (refl, tt)
-once_more (u ∷ us) t once new =
-    (list_any-append (λ (v : TileText). bytes_eq v.tile u.tile) us (t ∷ [])
-    ∙ both_false (has_tile us u.tile) (bytes_eq t.tile u.tile) once.0 (nat_list_eq_equiv.symm t.tile u.tile ∙ first_false (bytes_eq u.tile t.tile) (has_tile us t.tile) new),
-    once_more us t once.1 (second_false (bytes_eq u.tile t.tile) (has_tile us t.tile) new))
+once_more (u ∷ us) t once new = (
+  list_any-append (λ (v : TileText). bytes_eq v.tile u.tile) us (t ∷ [])
+      ∙ both_false (has_tile us u.tile) (bytes_eq t.tile u.tile) once.0 (nat_list_eq_equiv.symm t.tile u.tile ∙ first_false (bytes_eq u.tile t.tile) (has_tile us t.tile) new),
+  once_more us t once.1 (second_false (bytes_eq u.tile t.tile) (has_tile us t.tile) new),
+)
 
 -- the section of a new tile is begun
 pub known_with_one : (ts : List TileText) (t : TileText) (old new : BTreeSet (Bor (List ℕ))) (key : Bor (List ℕ)) → t.tile ≡ key.now → KnowsTiles ts old

@@ -3,3 +3,4 @@ pub mod Sayings
 pub mod LineByLine
 pub mod Known
 pub mod Entries
+pub mod Empty

@@ -109,7 +109,10 @@ fn sections_by_tile(
 }
 
 // The sections of a map, in its order.
-fn sections_of(alloc: Global, by_tile: BTreeMap<Name, TileText>) -> Result<List<TileText>, AllocError>
+fn sections_of(
+    alloc: Global,
+    by_tile: BTreeMap<Name, TileText>,
+) -> Result<List<TileText>, AllocError>
     ensures { IfOk result (λ sections. sections ≡ values by_tile) }
 {
     let mut sections = List::new(alloc);

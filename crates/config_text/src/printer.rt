@@ -1,9 +1,10 @@
 //! How a configuration is printed.
 
-ghost use Rattle.std.specs.Prelude.{◌≡◌, ◌∷◌, ◌++◌, [], IfOk, OnOk};
+ghost use Rattle.std.specs.Prelude.{◌≡◌, ◌∷◌, ◌++◌, [], map, if◌then◌else◌, IfOk, OnOk};
 ghost use Rattle.std.specs.List.{flat_map};
 ghost use Rattle.std.specs.Fmt.{decimal};
 ghost use Rattle.config_grammar.specs.ConfigPrint as printed;
+ghost use Rattle.config_text.specs.Empty.{has_no_lines};
 
 use super::{ArcLine, Config, EnumLine, Head, TileText, UnknownLine, WordLine};
 use std::alloc::{AllocError, Global};
@@ -53,14 +54,22 @@ fn push_arcs(text: &mut Vec<u8>, arcs: &[ArcLine]) -> Result<(), AllocError>
     Ok(())
 }
 
+// The digit of each bit.
+fn digits_in_turn(alloc: Global, bits: &[bool]) -> Result<Vec<u8>, AllocError>
+    ensures { IfOk result (λ digits. digits.items ≡ map (λ b. if b then 49 else 48) bits.now) }
+{
+    bits.iter()
+        .map(|bit| if *bit { b'1' } else { b'0' })
+        .collect(alloc)
+}
+
 // The digits of bits, the highest first.
 fn digits_of(alloc: Global, bits: &[bool]) -> Result<Vec<u8>, AllocError>
     ensures { IfOk result (λ digits. digits.items ≡ printed.digits_text bits.now) }
 {
-    bits.iter()
-        .rev()
-        .map(|bit| if *bit { b'1' } else { b'0' })
-        .collect(alloc)
+    let mut digits = digits_in_turn(alloc, bits)?;
+    digits.reverse();
+    Ok(digits)
 }
 
 // Adds the lines of words.
@@ -99,7 +108,9 @@ fn push_unknowns(text: &mut Vec<u8>, unknowns: &[UnknownLine]) -> Result<(), All
 }
 
 // Whether a section has no lines.
-fn is_empty(section: &TileText) -> bool {
+fn is_empty(section: &TileText) -> bool
+    ensures { result ≡ has_no_lines section.now }
+{
     section.arcs.is_empty()
         && section.words.is_empty()
         && section.enums.is_empty()
