@@ -1,6 +1,6 @@
 -- A configuration read line by line: what each line makes of what was read before it. It is how the program reads;
 -- that it gives what `configuration_of` says is a lemma.
-use Rattle.std.specs.Prelude.{ℕ, Bool, not, List, [], ◌∷◌, ◌++◌, map, Option, Some, None, Result, Ok, Err, if◌then◌else◌}
+use Rattle.std.specs.Prelude.{ℕ, not, List, [], ◌∷◌, ◌++◌, map, Option, Some, None, Result, Ok, Err, if◌then◌else◌}
 use Rattle.texts.specs.Lines.{Line}
 use Rattle.records.specs.Config.{Head, TileText, Config}
 use Rattle.config_grammar.specs.ConfigLines.{ConfigLine, DeviceLine, HeadLine, TileLine, ArcOf, WordOf, EnumOf, UnknownOf, OutsideLine, words_in, is_skipped}

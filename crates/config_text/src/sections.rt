@@ -49,7 +49,6 @@ fn ones_of(alloc: Global, digits: &[u8]) -> Result<Vec<bool>, AllocError>
 }
 
 // The bits of digits, the last digit first.
-
 fn bits_of(alloc: Global, digits: &[u8]) -> Result<List<bool>, AllocError>
     ensures { IfOk result (λ bits. bits ≡ bits_of_digits digits.now) }
 {

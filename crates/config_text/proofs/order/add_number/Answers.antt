@@ -1,4 +1,4 @@
-use Rattle.std.proofs.Common.{◌≡◌, ◌∙◌, ap}
+use Rattle.std.proofs.Common.{◌∙◌, ap}
 use Rattle.records.specs.Config.{ArcLine}
 use Rattle.config_grammar.specs.Ordered.{put_once}
 use Rattle.config_grammar.specs.ConfigText.{arc_key}

@@ -3,7 +3,6 @@ use Rattle.std.specs.BTreeMap.{insert_entry}
 use Rattle.std.specs.Cmp.Lexicographic.{slice_cmp}
 use Rattle.std.specs.Ordering.{nat_cmp}
 use Rattle.records.specs.Config.{TileText}
-use Rattle.config_text.specs.Entries.{tile_entries}
 use Rattle.config_text.proofs.Ordered.{section_put}
 use Rattle.config_text.proofs.order.add_section.Goals as goal
 

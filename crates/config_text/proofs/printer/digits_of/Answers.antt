@@ -1,4 +1,4 @@
-use Rattle.std.proofs.Common.{◌≡◌, Bool, ℕ, if◌then◌else◌, ap, reverse, ◌∙◌}
+use Rattle.std.proofs.Common.{Bool, if◌then◌else◌, ap, reverse, ◌∙◌}
 use Rattle.config_text.proofs.Bits.{reversed_map}
 use Rattle.config_text.proofs.printer.digits_of.Goals as goal
 

@@ -1,4 +1,4 @@
-use Rattle.std.proofs.Common.{◌≡◌, ◌==◌, ℕ, ap, reverse, ◌∙◌}
+use Rattle.std.proofs.Common.{◌==◌, ℕ, ap, reverse, ◌∙◌}
 use Rattle.config_text.proofs.Bits.{reversed_map}
 use Rattle.config_text.proofs.sections.bits_of.Goals as goal
 

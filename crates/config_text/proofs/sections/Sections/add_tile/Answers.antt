@@ -1,7 +1,6 @@
-use Rattle.std.proofs.Common.{◌≡◌, ◌∷◌, ◌++◌, [], List, not, true, false, refl, sym, ap, subst, ◌∙◌}
+use Rattle.std.proofs.Common.{◌≡◌, ◌∷◌, ◌++◌, [], refl, sym, ap, ◌∙◌}
 use Rattle.records.specs.Config.{TileText}
 use Rattle.config_grammar.specs.Sections.{no_lines}
-use Rattle.config_text.specs.Known.{KnowsTiles}
 use Rattle.config_text.proofs.Tiles.{known_with_one, not_true}
 use Rattle.config_text.proofs.sections.Sections.add_tile.Goals as goal
 
