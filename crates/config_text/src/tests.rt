@@ -1,9 +1,12 @@
 //! Worked cases of the reader and the printer.
 
 use super::*;
+use std::alloc::AllocError;
 use std::test::Fail;
 
-const TOGGLE: &str = "\
+// The text of a small design, as it is printed.
+fn toggle() -> &'static str {
+    "\
 .device MINI-A
 
 .tile R0C1:MIO
@@ -59,9 +62,12 @@ enum: K0.DIR INPUT
 .tile R2C3:MCK
 arc: G_CK2 KI
 enum: K0.DIR INPUT
-";
+"
+}
 
-const LOOSE: &str = "\
+// A text out of order, with a repeated arc.
+fn loose() -> &'static str {
+    "\
 .device MINI-A
 .comment Part: MINI
 .sysconfig CONFIG_IOVOLTAGE 3.3
@@ -76,9 +82,12 @@ arc: H1 W1_H1
 enum: S0.MODE LOGIC
 word: S0.K 0111
 .tile R1C0:MLC
-";
+"
+}
 
-const WRITTEN: &str = "\
+// The same in order.
+fn written() -> &'static str {
+    "\
 .device MINI-A
 .comment Part: MINI
 .sysconfig CONFIG_IOVOLTAGE 3.3
@@ -92,33 +101,38 @@ arc: A H0
 arc: A-B C
 arc: H1 W1_H1
 unknown: F10B2
-";
+"
+}
 
-// Texts that are read, and how they and their copies are printed.
-#[test]
-fn prints_what_is_read(rt: HostRuntime) -> Result<(), Fail> {
-    let alloc = rt.alloc();
-    for (text, want) in [(TOGGLE, TOGGLE), (LOOSE, WRITTEN)] {
-        let Ok(config) = read(alloc, text.as_bytes()) else {
-            panic!(rt; "not read: {text}");
-        };
-        assert_eq!(rt;
-            print(alloc, &config)?.as_slice(),
-            want.as_bytes(),
-            "{text}"
-        );
-        let copied = config.copy(alloc)?;
-        assert_eq!(rt;
-            print(alloc, &copied)?.as_slice(),
-            want.as_bytes(),
-            "{text}"
-        );
-    }
-    Ok(())
+// Whether a text is read, and what is read and its copy are printed so.
+fn prints(alloc: Global, text: &str, want: &str) -> Result<bool, AllocError> {
+    let Ok(config) = read(alloc, text.as_bytes()) else {
+        return Ok(false);
+    };
+    let copied = config.copy(alloc)?;
+    let first = print(alloc, &config)?;
+    let second = print(alloc, &copied)?;
+    Ok(first.as_slice() == want.as_bytes() && second.as_slice() == want.as_bytes())
 }
 
 #[test]
-fn refuses(rt: HostRuntime) {
+fn prints_what_is_read(rt: HostRuntime) -> Result<(), Fail> {
+    let alloc = rt.alloc();
+    assert!(rt; prints(alloc, toggle(), toggle())?);
+    assert!(rt; prints(alloc, loose(), written())?);
+    Ok(())
+}
+
+// Whether a text is refused with this error.
+fn refuses(alloc: Global, text: &str, want: ConfigError) -> bool {
+    match read(alloc, text.as_bytes()) {
+        Ok(_) => false,
+        Err(got) => got == want,
+    }
+}
+
+#[test]
+fn refuses_first_faults(rt: HostRuntime) {
     let alloc = rt.alloc();
     for (text, want) in [
         ("", ConfigError::NoDevice),
@@ -140,9 +154,6 @@ fn refuses(rt: HostRuntime) {
         ),
         (".device A\n.tile A\narc: B\r C\n", ConfigError::BadLine(3)),
     ] {
-        match read(alloc, text.as_bytes()) {
-            Ok(_) => panic!(rt; "read: {text}"),
-            Err(got) => assert_eq!(rt; got, want, "{text}"),
-        }
+        assert!(rt; refuses(alloc, text, want), "{text}");
     }
 }
