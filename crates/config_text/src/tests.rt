@@ -5,8 +5,8 @@ use std::alloc::AllocError;
 use std::test::Fail;
 
 // The text of a small design, as it is printed.
-fn toggle() -> &'static str {
-    "\
+fn toggle() -> &'static [u8] {
+    b"\
 .device MINI-A
 
 .tile R0C1:MIO
@@ -63,11 +63,12 @@ enum: K0.DIR INPUT
 arc: G_CK2 KI
 enum: K0.DIR INPUT
 "
+        .as_slice()
 }
 
 // A text out of order, with a repeated arc.
-fn loose() -> &'static str {
-    "\
+fn loose() -> &'static [u8] {
+    b"\
 .device MINI-A
 .comment Part: MINI
 .sysconfig CONFIG_IOVOLTAGE 3.3
@@ -83,11 +84,12 @@ enum: S0.MODE LOGIC
 word: S0.K 0111
 .tile R1C0:MLC
 "
+        .as_slice()
 }
 
 // The same in order.
-fn written() -> &'static str {
-    "\
+fn written() -> &'static [u8] {
+    b"\
 .device MINI-A
 .comment Part: MINI
 .sysconfig CONFIG_IOVOLTAGE 3.3
@@ -102,17 +104,18 @@ arc: A-B C
 arc: H1 W1_H1
 unknown: F10B2
 "
+        .as_slice()
 }
 
 // Whether a text is read, and what is read and its copy are printed so.
-fn prints(alloc: Global, text: &str, want: &str) -> Result<bool, AllocError> {
-    let Ok(config) = read(alloc, text.as_bytes()) else {
+fn prints(alloc: Global, text: &[u8], want: &[u8]) -> Result<bool, AllocError> {
+    let Ok(config) = read(alloc, text) else {
         return Ok(false);
     };
     let copied = config.copy(alloc)?;
     let first = print(alloc, &config)?;
     let second = print(alloc, &copied)?;
-    Ok(first.as_slice() == want.as_bytes() && second.as_slice() == want.as_bytes())
+    Ok(first.as_slice() == want && second.as_slice() == want)
 }
 
 #[test]
