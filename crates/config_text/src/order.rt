@@ -24,6 +24,7 @@ fn add_number(numbers: &mut ArcNumbers, arc: ArcLine) -> Result<(), AllocError>
     ensures sinks { OnOk result (AreSinks numbers.new.entries) }
 {
     let ArcLine { sink, source, line } = arc;
+    // The order of pairs is that of lines, since the sink is a name.
     prove!(is_name(sink.bytes()));
     numbers.insert((sink, source), line)?;
     Ok(())

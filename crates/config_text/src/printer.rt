@@ -19,7 +19,7 @@ fn push_word(text: &mut Vec<u8>, word: &[u8]) -> Result<(), AllocError>
 }
 
 // Adds a line of two words.
-fn push_two(text: &mut Vec<u8>, first: &[u8], second: &[u8]) -> Result<(), AllocError>
+fn push_line_of_two(text: &mut Vec<u8>, first: &[u8], second: &[u8]) -> Result<(), AllocError>
     ensures { OnOk result (text.new.items ≡ text.old.items ++ printed.line_of first.now (second.now ∷ [])) }
 {
     text.extend_from_slice(first)?;
@@ -29,7 +29,7 @@ fn push_two(text: &mut Vec<u8>, first: &[u8], second: &[u8]) -> Result<(), Alloc
 }
 
 // Adds a line of three words.
-fn push_three(
+fn push_line_of_three(
     text: &mut Vec<u8>,
     first: &[u8],
     second: &[u8],
@@ -49,7 +49,7 @@ fn push_arcs(text: &mut Vec<u8>, arcs: &[ArcLine]) -> Result<(), AllocError>
     ensures { OnOk result (text.new.items ≡ text.old.items ++ flat_map printed.arc_text arcs.now) }
 {
     for arc in arcs {
-        push_three(text, b"arc:", arc.sink.bytes(), arc.source.bytes())?;
+        push_line_of_three(text, b"arc:", arc.sink.bytes(), arc.source.bytes())?;
     }
     Ok(())
 }
@@ -79,7 +79,7 @@ fn push_words(text: &mut Vec<u8>, words: &[WordLine]) -> Result<(), AllocError>
     let alloc = *text.allocator();
     for word in words {
         let digits = digits_of(alloc, word.bits.as_slice())?;
-        push_three(text, b"word:", word.name.bytes(), &digits)?;
+        push_line_of_three(text, b"word:", word.name.bytes(), &digits)?;
     }
     Ok(())
 }
@@ -89,7 +89,7 @@ fn push_enums(text: &mut Vec<u8>, enums: &[EnumLine]) -> Result<(), AllocError>
     ensures { OnOk result (text.new.items ≡ text.old.items ++ flat_map printed.enum_text enums.now) }
 {
     for line in enums {
-        push_three(text, b"enum:", line.name.bytes(), line.value.bytes())?;
+        push_line_of_three(text, b"enum:", line.name.bytes(), line.value.bytes())?;
     }
     Ok(())
 }
@@ -102,7 +102,7 @@ fn push_unknowns(text: &mut Vec<u8>, unknowns: &[UnknownLine]) -> Result<(), All
     for line in unknowns {
         let UnknownLine { frame, bit, .. } = *line;
         let place = format!(in alloc; "F{frame}B{bit}")?;
-        push_two(text, b"unknown:", place.as_bytes())?;
+        push_line_of_two(text, b"unknown:", place.as_bytes())?;
     }
     Ok(())
 }
@@ -125,7 +125,7 @@ fn push_section(text: &mut Vec<u8>, section: &TileText) -> Result<(), AllocError
         return Ok(());
     }
     text.push(b'\n')?;
-    push_two(text, b".tile", section.tile.bytes())?;
+    push_line_of_two(text, b".tile", section.tile.bytes())?;
     push_arcs(text, section.arcs.as_slice())?;
     push_words(text, section.words.as_slice())?;
     push_enums(text, section.enums.as_slice())?;
@@ -158,7 +158,7 @@ pub fn print(alloc: Global, config: &Config) -> Result<Vec<u8>, AllocError>
     ensures { IfOk result (λ text. text.items ≡ printed.config_text config.now) }
 {
     let mut text = Vec::new(alloc);
-    push_two(&mut text, b".device", config.device.bytes())?;
+    push_line_of_two(&mut text, b".device", config.device.bytes())?;
     push_heads(&mut text, config.heads.as_slice())?;
     push_sections(&mut text, config.tiles.as_slice())?;
     Ok(text)

@@ -82,8 +82,9 @@ impl<'a> Reader<'a> {
     // Adds a head.
     fn add_head(&mut self, text: &'a [u8]) -> Result<(), ConfigError>
         requires { KnowsItsTiles self.old.sections }
-        ensures step { OrMemory (λ _. reading_view self.new) fault_of result
-            (Done (record { devices = (reading_view self.old).devices; heads = self.old.heads ++ record { text = text.now } ∷ []; sections = (reading_view self.old).sections })) }
+        ensures step { let before = reading_view self.old in
+            OrMemory (λ _. reading_view self.new) fault_of result
+            (Done (record { devices = before.devices; heads = before.heads ++ record { text = text.now } ∷ []; sections = before.sections })) }
         ensures known { OnOk result (KnowsItsTiles self.new.sections) }
     {
         let text = Text::new(self.alloc, text)?;
