@@ -8,9 +8,13 @@ ghost use Rattle.json_forms.specs.Values.{reading_of, list_in, if_name, name_in,
 ghost use Rattle.json_forms.specs.Parts.{name_or_empty_in};
 ghost use Rattle.json_values.specs.Reads.{Reads};
 
+mod judges;
 mod lists;
+mod members;
 
+pub use judges::{AnyForm, Judge, Verdict};
 pub use lists::{FromJson, list, list_member_as, member_as, pair, triple};
+pub use members::{ListError, list_member, read_elements, read_list};
 use rr_ids::{Name, NameError};
 use serde_json::Value;
 use std::alloc::{AllocError, AllocFailed, Global};
