@@ -1,0 +1,46 @@
+use Rattle.std.proofs.Common.{◌≡◌, ℕ, List, map, take, inl, inr, not, ap, sym, ◌∙◌, Some}
+use Rattle.std.specs.BTreeSet.{contains}
+use Rattle.records.specs.Side.{Placed}
+use Rattle.side_form.specs.Side.{DuplicateName, cell_fault}
+use Rattle.side_file.specs.Known.{name_order, site_order}
+use Rattle.side_file.proofs.Again.{cell_named_before, cell_sited_before, cell_is_new}
+use Rattle.side_file.proofs.Sets.{one_more_cell, one_more_site}
+use Rattle.side_file.proofs.Walks.{so_far, left, faulty, faultless}
+use Rattle.side_file.proofs.uses.second_cell.Goals as goal
+
+pub returns-then-not-is_new : goal.returns-then-not-is_new
+returns-then-not-is_new c =
+    let cell = c.cell-item.result.now in
+    let name : c.cell.inside.name ≡ cell.name = ap (λ (p : Placed). p.name) c.cell.view_is in
+    let tile : c.cell.inside.tile ≡ cell.tile = ap (λ (p : Placed). p.tile) c.cell.view_is in
+    let kind : c.cell.inside.kind ≡ cell.kind = ap (λ (p : Placed). p.kind) c.cell.view_is in
+    let named = rw (c.in_ok-copy.ensures ∙ name) at c.in_ok-is_new.ensures.added in
+    let sited = rw (c.in_ok-copy-2.ensures ∙ tile, c.in_ok-copy-3.ensures ∙ kind) at c.in_ok-is_free.ensures.added in
+    let before = map (λ p. p.now) (take c.loop-cell.cell-index c.args.cells.now) in
+    let again : cell_fault before cell ≡ Some (DuplicateName cell.name) = elim c.then-not-is_new.either [
+      | inl is ↦ cell_named_before before cell c.loop-cell.names c.loop-cell.sites c.loop-cell.invariant.names c.loop-cell.invariant.sites (sym named ∙ is)
+      | inr is ↦ cell_sited_before before cell c.loop-cell.names c.loop-cell.sites c.loop-cell.invariant.names c.loop-cell.invariant.sites (sym sited ∙ is.1)
+    ] in
+    rw name
+    (faulty cell_fault before _ _ cell _ (DuplicateName cell.name) c.loop-cell.invariant.rest
+    (left (λ p. p.now) c.args.cells.now c.loop-cell.cell-index c.cell-item.result c.loop-cell-test.true c.cell-item.is) again)
+
+pub loop-cell-preserved : goal.loop-cell-preserved
+loop-cell-preserved c =
+    let cell = c.cell-item.result.now in
+    let name : c.cell.inside.name ≡ cell.name = ap (λ (p : Placed). p.name) c.cell.view_is in
+    let tile : c.cell.inside.tile ≡ cell.tile = ap (λ (p : Placed). p.tile) c.cell.view_is in
+    let kind : c.cell.inside.kind ≡ cell.kind = ap (λ (p : Placed). p.kind) c.cell.view_is in
+    let named = rw (c.in_ok-copy.ensures ∙ name) at c.in_ok-is_new.ensures.added in
+    let sited = rw (c.in_ok-copy-2.ensures ∙ tile, c.in_ok-copy-3.ensures ∙ kind) at c.in_ok-is_free.ensures.added in
+    rw (so_far (λ p. p.now) c.args.cells.now c.loop-cell.cell-index c.cell-item.result c.loop-cell-test.true c.cell-item.is)
+    (record {
+      names = one_more_cell _ cell c.loop-cell.names c.insert.new.self c.loop-cell.invariant.names (rw (c.in_ok-copy.ensures ∙ name) at c.in_ok-is_new.ensures.updates.0);
+      sites =
+        one_more_site _ cell c.loop-cell.sites c.insert-in-loop-cell.new.self c.loop-cell.invariant.sites
+        (rw (c.in_ok-copy-2.ensures ∙ tile, c.in_ok-copy-3.ensures ∙ kind) at c.in_ok-is_free.ensures.updates.0);
+      rest =
+        faultless cell_fault _ _ _ cell _ c.loop-cell.invariant.rest
+        (left (λ p. p.now) c.args.cells.now c.loop-cell.cell-index c.cell-item.result c.loop-cell-test.true c.cell-item.is)
+        (cell_is_new _ cell c.loop-cell.names c.loop-cell.sites c.loop-cell.invariant.names c.loop-cell.invariant.sites (sym named ∙ c.if-not-is_new.false) (sym sited ∙ c.if-not-is_free.false));
+    })

@@ -1,0 +1,58 @@
+//! What the lists of a side file keep beside their forms.
+
+ghost use Rattle.std.specs.Prelude.{◌≡◌, option_map};
+ghost use Rattle.words.specs.OrMemory.{OrMemory};
+ghost use Rattle.rr_ids.specs.Limits.{limit_of};
+ghost use Rattle.json_forms.specs.Faults as form;
+ghost use Rattle.json_forms.specs.Results.{unless_fault};
+ghost use Rattle.side_form.specs.Side.{SideFault, side_fault, size_fault as size_fault_spec};
+ghost use Rattle.side_file.specs.Faults.{fault_of};
+
+use crate::domains::wrong_domain;
+use crate::listed::{unknown_name, unpaired};
+use crate::uses::second_use;
+use crate::{Side, SideError};
+use rr_ids::Limit;
+use std::alloc::Global;
+
+// The most slices and pads of a side file.
+const MOST_SLICES: usize = 262_144;
+
+const MOST_PADS: usize = 65_536;
+
+// The limit that is passed.
+fn size_fault(side: &Side) -> Option<Limit>
+    ensures { size_fault_spec side.now
+        ≡ option_map (λ limit. SideFault.OfForm (form.FormFault.TooLarge (limit_of limit))) result }
+{
+    if side.slices.len() > MOST_SLICES {
+        return Some(Limit::Slices);
+    }
+    if side.pads.len() > MOST_PADS {
+        return Some(Limit::Pads);
+    }
+    None
+}
+
+/// The first fault of lists of the right forms: of their limits, of second uses, of names that aren't listed, of cells in
+/// no triple, and of domains.
+pub(crate) fn checked(alloc: Global, side: &Side) -> Result<(), SideError>
+    ensures { OrMemory (λ done. done) fault_of result (unless_fault (side_fault side.now) tt) }
+{
+    if let Some(limit) = size_fault(side) {
+        return Err(SideError::TooLarge(limit));
+    }
+    if let Some(name) = second_use(alloc, side)? {
+        return Err(SideError::DuplicateName(name.copy()?));
+    }
+    if let Some(name) = unknown_name(alloc, side)? {
+        return Err(SideError::UnknownName(name.copy()?));
+    }
+    if let Some(name) = unpaired(alloc, side)? {
+        return Err(SideError::Unpaired(name.copy()?));
+    }
+    if let Some(name) = wrong_domain(alloc, side)? {
+        return Err(SideError::WrongDomain(name.copy()?));
+    }
+    Ok(())
+}

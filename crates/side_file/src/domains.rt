@@ -1,0 +1,117 @@
+//! Entries of triples that aren't in the domain of their place.
+
+ghost use Rattle.std.specs.Prelude.{◌≡◌, map, not, find, IfOk, option_map};
+ghost use Rattle.std.specs.List.{flat_map};
+ghost use Rattle.std.specs.Option.{option_copied};
+ghost use Rattle.rr_ids.specs.Domains.{domain_of};
+ghost use Rattle.records.specs.Side as record_side;
+ghost use Rattle.side_form.specs.Side as side_form;
+ghost use Rattle.side_file.specs.Known.{KnowsDomain};
+ghost use Rattle.side_file.specs.ByDomain.{is_there};
+
+use crate::{Placed, Side, Triple};
+use rr_ids::{Domain, Name};
+use std::alloc::{AllocError, Global};
+use std::collections::BTreeSet;
+
+/// The names of the cells in each domain.
+#[derive(Drop)]
+struct ByDomain {
+    zero: BTreeSet<Name>,
+    one: BTreeSet<Name>,
+    two: BTreeSet<Name>,
+}
+
+// The names of the cells in a domain.
+fn names_in(alloc: Global, cells: &[Placed], domain: Domain) -> Result<BTreeSet<Name>, AllocError>
+    ensures { IfOk result (λ set. KnowsDomain (domain_of domain) set cells.now) }
+{
+    let mut names = BTreeSet::<Name>::new(alloc);
+    for cell in cells {
+        if cell.domain == domain {
+            names.insert(cell.name.copy()?)?;
+        }
+    }
+    Ok(names)
+}
+
+fn by_domain(alloc: Global, cells: &[Placed]) -> Result<ByDomain, AllocError>
+    ensures zero { IfOk result (λ sets. KnowsDomain record_side.D0 sets.zero cells.now) }
+    ensures one { IfOk result (λ sets. KnowsDomain record_side.D1 sets.one cells.now) }
+    ensures two { IfOk result (λ sets. KnowsDomain record_side.D2 sets.two cells.now) }
+{
+    Ok(ByDomain {
+        zero: names_in(alloc, cells, Domain::D0)?,
+        one: names_in(alloc, cells, Domain::D1)?,
+        two: names_in(alloc, cells, Domain::D2)?,
+    })
+}
+
+// The first entry of a triple that isn't in the domain of its place.
+fn entry_elsewhere<'a>(sets: &ByDomain, triple: &'a Triple) -> Option<&'a Name>
+    ensures { option_copied result ≡ option_map (λ entry. entry.0)
+        (find (λ entry. not (is_there sets.now entry)) (side_form.entries_of_triple triple.now)) }
+{
+    if !sets.zero.contains(&triple.first) {
+        return Some(&triple.first);
+    }
+    if !sets.one.contains(&triple.second) {
+        return Some(&triple.second);
+    }
+    if !sets.two.contains(&triple.third) {
+        return Some(&triple.third);
+    }
+    None
+}
+
+// The first entry of triples that isn't in the domain of its place.
+fn first_elsewhere<'a>(sets: &ByDomain, triples: &'a [Triple]) -> Option<&'a Name>
+    ensures { option_copied result ≡ option_map (λ entry. entry.0)
+        (find (λ entry. not (is_there sets.now entry)) (flat_map side_form.entries_of_triple triples.now)) }
+{
+    for triple in triples {
+        let elsewhere = entry_elsewhere(sets, triple);
+        if elsewhere.is_some() {
+            return elsewhere;
+        }
+    }
+    None
+}
+
+// The first entry of the triples of slices in another domain.
+fn slice_elsewhere(alloc: Global, side: &Side) -> Result<Option<&Name>, AllocError>
+    ensures { IfOk result (λ name. option_copied name
+        ≡ side_form.first_elsewhere side.now.slices side.now.triples) }
+{
+    let sets = by_domain(alloc, side.slices.as_slice())?;
+    Ok(first_elsewhere(&sets, side.triples.as_slice()))
+}
+
+// The first entry of the triples of pads in another domain.
+fn pad_elsewhere(alloc: Global, side: &Side) -> Result<Option<&Name>, AllocError>
+    ensures { IfOk result (λ name. option_copied name
+        ≡ side_form.first_elsewhere side.now.pads (side_form.pad_triples side.now)) }
+{
+    let sets = by_domain(alloc, side.pads.as_slice())?;
+    let elsewhere = first_elsewhere(&sets, side.inputs.as_slice());
+    if elsewhere.is_some() {
+        return Ok(elsewhere);
+    }
+    let elsewhere = first_elsewhere(&sets, side.outputs.as_slice());
+    if elsewhere.is_some() {
+        return Ok(elsewhere);
+    }
+    Ok(first_elsewhere(&sets, side.clocks.as_slice()))
+}
+
+/// The first entry of a triple that isn't in the domain of its place.
+pub(crate) fn wrong_domain(alloc: Global, side: &Side) -> Result<Option<&Name>, AllocError>
+    ensures { IfOk result (λ name. side_form.wrong_domain side.now
+        ≡ option_map side_form.SideFault.WrongDomain (option_copied name)) }
+{
+    let elsewhere = slice_elsewhere(alloc, side)?;
+    if elsewhere.is_some() {
+        return Ok(elsewhere);
+    }
+    pad_elsewhere(alloc, side)
+}

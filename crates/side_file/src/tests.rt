@@ -1,0 +1,85 @@
+use crate::{SideError, print, read};
+use std::test::Fail;
+
+const TOGGLE: &str =
+    "{\"clocks\":[[\"k0\",\"k1\",\"k2\"]],\"inputs\":[],\"outputs\":[[\"o0\",\"o1\",\"o2\"]],\"pads\":[[\"k0\",\"R2C1:MCK\",\"K0\",0],[\"k1\",\"R2C2:MCK\",\"K0\",1],[\"k2\",\"R2C3:MCK\",\"K0\",2],[\"o0\",\"R0C1:MIO\",\"P0\",0],[\"o1\",\"R0C2:MIO\",\"P0\",1],[\"o2\",\"R0C3:MIO\",\"P0\",2]],\"slices\":[[\"a0\",\"R1C1:MLC\",\"S0\",0],[\"a1\",\"R1C2:MLC\",\"S0\",1],[\"a2\",\"R1C3:MLC\",\"S0\",2]],\"triples\":[[\"a0\",\"a1\",\"a2\"]],\"voters\":[[\"a0\",0],[\"a1\",0],[\"a2\",0]]}\n";
+
+// The text, of which a proof needs nothing.
+fn toggle() -> &'static str {
+    TOGGLE
+}
+
+#[test]
+fn a_side_file_is_printed_as_it_was_read(rt: HostRuntime) -> Result<(), Fail> {
+    let side = read(rt.alloc(), toggle().as_bytes())?;
+    assert!(rt; print(rt.alloc(), &side)?.as_slice() == toggle().as_bytes());
+    let copy = side.copy(rt.alloc())?;
+    assert!(rt; print(rt.alloc(), &copy)?.as_slice() == toggle().as_bytes());
+    Ok(())
+}
+
+// The name of a refusal, and what it says: a key, a limit or a name.
+fn named(error: &SideError) -> (&'static str, &[u8]) {
+    match error {
+        SideError::NotJson => ("NotJson", b""),
+        SideError::BadShape(key) => ("BadShape", key.bytes()),
+        SideError::TooLarge(limit) => ("TooLarge", limit.text().as_bytes()),
+        SideError::DuplicateName(name) => ("DuplicateName", name.bytes()),
+        SideError::UnknownName(name) => ("UnknownName", name.bytes()),
+        SideError::Unpaired(name) => ("Unpaired", name.bytes()),
+        SideError::WrongDomain(name) => ("WrongDomain", name.bytes()),
+        SideError::Memory => ("Memory", b""),
+    }
+}
+
+#[test]
+fn faulty_side_files_are_refused(rt: HostRuntime) -> Result<(), Fail> {
+    // what stands in the toggle's text, what stands in its place, and the refusal
+    let cases = [
+        ("{", "{{", "NotJson", ""),
+        ("\"S0\",1]", "\"S0\",0]", "WrongDomain", "a1"),
+        (
+            "[\"a1\",\"R1C2:MLC\"",
+            "[\"a0\",\"R1C2:MLC\"",
+            "DuplicateName",
+            "a0",
+        ),
+        (
+            "[\"a1\",\"R1C2:MLC\"",
+            "[\"a1\",\"R1C1:MLC\"",
+            "DuplicateName",
+            "a1",
+        ),
+        (
+            "[\"o0\",\"o1\",\"o2\"]",
+            "[\"o0\",\"o1\",\"k2\"]",
+            "DuplicateName",
+            "k2",
+        ),
+        ("[\"a1\",0]", "[\"a0\",0]", "DuplicateName", "a0"),
+        (
+            "[\"a0\",\"a1\",\"a2\"]",
+            "[\"a0\",\"a1\",\"a3\"]",
+            "UnknownName",
+            "a3",
+        ),
+        ("[\"a2\",0]", "[\"k2\",0]", "UnknownName", "k2"),
+        ("[[\"a0\",\"a1\",\"a2\"]]", "[]", "Unpaired", "a0"),
+        ("[[\"k0\",\"k1\",\"k2\"]]", "[[],[]]", "BadShape", "clocks"),
+        (
+            "[\"a0\",\"R1C1:MLC\",\"S0\",0]",
+            "[\"a0\",\"R1C1:MLC\",\"S0\"]",
+            "BadShape",
+            "slices.0",
+        ),
+    ];
+    for (old, new, kind, what) in cases {
+        let text = toggle().replacen(rt.alloc(), old, new, 1)?;
+        let error = read(rt.alloc(), text.as_bytes()).err().ok_or("a refusal")?;
+        let (found, told) = named(&error);
+        assert!(rt; found == kind && told == what.as_bytes(), "{new}");
+    }
+    let error = read(rt.alloc(), b"[]").err().ok_or("a refusal")?;
+    assert!(rt; named(&error).1 == b".".as_slice());
+    Ok(())
+}
