@@ -2,3 +2,5 @@ pub mod Sets
 pub mod Walks
 pub mod Again
 pub mod SameDomain
+pub mod Elsewhere
+pub mod Floatless

@@ -34,25 +34,25 @@ fn size_fault(side: &Side) -> Option<Limit>
     None
 }
 
-/// The first fault of lists of the right forms: of their limits, of second uses, of names that aren't listed, of cells in
-/// no triple, and of domains.
-pub(crate) fn checked(alloc: Global, side: &Side) -> Result<(), SideError>
-    ensures { OrMemory (λ done. done) fault_of result (unless_fault (side_fault side.now) tt) }
+/// The side file again, or the first fault of its lists beside their forms: of limits, of second uses, of names that
+/// aren't listed, of cells in no triple, and of domains.
+pub(crate) fn checked(alloc: Global, side: Side) -> Result<Side, SideError>
+    ensures { OrMemory (λ side. side) fault_of result (unless_fault (side_fault side) side) }
 {
-    if let Some(limit) = size_fault(side) {
+    if let Some(limit) = size_fault(&side) {
         return Err(SideError::TooLarge(limit));
     }
-    if let Some(name) = second_use(alloc, side)? {
+    if let Some(name) = second_use(alloc, &side)? {
         return Err(SideError::DuplicateName(name.copy()?));
     }
-    if let Some(name) = unknown_name(alloc, side)? {
+    if let Some(name) = unknown_name(alloc, &side)? {
         return Err(SideError::UnknownName(name.copy()?));
     }
-    if let Some(name) = unpaired(alloc, side)? {
+    if let Some(name) = unpaired(alloc, &side)? {
         return Err(SideError::Unpaired(name.copy()?));
     }
-    if let Some(name) = wrong_domain(alloc, side)? {
+    if let Some(name) = wrong_domain(alloc, &side)? {
         return Err(SideError::WrongDomain(name.copy()?));
     }
-    Ok(())
+    Ok(side)
 }

@@ -1,13 +1,11 @@
 //! Entries of triples that aren't in the domain of their place.
 
 ghost use Rattle.std.specs.Prelude.{◌≡◌, map, not, find, IfOk, option_map};
-ghost use Rattle.std.specs.List.{flat_map};
 ghost use Rattle.std.specs.Option.{option_copied};
 ghost use Rattle.rr_ids.specs.Domains.{domain_of};
-ghost use Rattle.records.specs.Side as record_side;
 ghost use Rattle.side_form.specs.Side as side_form;
 ghost use Rattle.side_file.specs.Known.{KnowsDomain};
-ghost use Rattle.side_file.specs.ByDomain.{is_there};
+ghost use Rattle.side_file.specs.ByDomain.{is_there, elsewhere_in, KnowsDomains};
 
 use crate::{Placed, Side, Triple};
 use rr_ids::{Domain, Name};
@@ -36,9 +34,7 @@ fn names_in(alloc: Global, cells: &[Placed], domain: Domain) -> Result<BTreeSet<
 }
 
 fn by_domain(alloc: Global, cells: &[Placed]) -> Result<ByDomain, AllocError>
-    ensures zero { IfOk result (λ sets. KnowsDomain record_side.D0 sets.zero cells.now) }
-    ensures one { IfOk result (λ sets. KnowsDomain record_side.D1 sets.one cells.now) }
-    ensures two { IfOk result (λ sets. KnowsDomain record_side.D2 sets.two cells.now) }
+    ensures { IfOk result (λ sets. KnowsDomains sets cells.now) }
 {
     Ok(ByDomain {
         zero: names_in(alloc, cells, Domain::D0)?,
@@ -66,16 +62,27 @@ fn entry_elsewhere<'a>(sets: &ByDomain, triple: &'a Triple) -> Option<&'a Name>
 
 // The first entry of triples that isn't in the domain of its place.
 fn first_elsewhere<'a>(sets: &ByDomain, triples: &'a [Triple]) -> Option<&'a Name>
-    ensures { option_copied result ≡ option_map (λ entry. entry.0)
-        (find (λ entry. not (is_there sets.now entry)) (flat_map side_form.entries_of_triple triples.now)) }
+    ensures { option_copied result ≡ elsewhere_in sets.now triples.now }
 {
     for triple in triples {
-        let elsewhere = entry_elsewhere(sets, triple);
-        if elsewhere.is_some() {
-            return elsewhere;
+        if let Some(name) = entry_elsewhere(sets, triple) {
+            return Some(name);
         }
     }
     None
+}
+
+// The same in the triples of pads.
+fn first_pad_elsewhere<'a>(sets: &ByDomain, side: &'a Side) -> Option<&'a Name>
+    ensures { option_copied result ≡ elsewhere_in sets.now (side_form.pad_triples side.now) }
+{
+    if let Some(name) = first_elsewhere(sets, side.inputs.as_slice()) {
+        return Some(name);
+    }
+    if let Some(name) = first_elsewhere(sets, side.outputs.as_slice()) {
+        return Some(name);
+    }
+    first_elsewhere(sets, side.clocks.as_slice())
 }
 
 // The first entry of the triples of slices in another domain.
@@ -93,15 +100,7 @@ fn pad_elsewhere(alloc: Global, side: &Side) -> Result<Option<&Name>, AllocError
         ≡ side_form.first_elsewhere side.now.pads (side_form.pad_triples side.now)) }
 {
     let sets = by_domain(alloc, side.pads.as_slice())?;
-    let elsewhere = first_elsewhere(&sets, side.inputs.as_slice());
-    if elsewhere.is_some() {
-        return Ok(elsewhere);
-    }
-    let elsewhere = first_elsewhere(&sets, side.outputs.as_slice());
-    if elsewhere.is_some() {
-        return Ok(elsewhere);
-    }
-    Ok(first_elsewhere(&sets, side.clocks.as_slice()))
+    Ok(first_pad_elsewhere(&sets, side))
 }
 
 /// The first entry of a triple that isn't in the domain of its place.
@@ -109,9 +108,8 @@ pub(crate) fn wrong_domain(alloc: Global, side: &Side) -> Result<Option<&Name>, 
     ensures { IfOk result (λ name. side_form.wrong_domain side.now
         ≡ option_map side_form.SideFault.WrongDomain (option_copied name)) }
 {
-    let elsewhere = slice_elsewhere(alloc, side)?;
-    if elsewhere.is_some() {
-        return Ok(elsewhere);
+    if let Some(name) = slice_elsewhere(alloc, side)? {
+        return Ok(Some(name));
     }
     pad_elsewhere(alloc, side)
 }

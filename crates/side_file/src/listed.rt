@@ -47,23 +47,69 @@ fn first_outside<'a>(
     Ok(first_missing(names, &set_of(alloc, listed)?))
 }
 
+// The first name in the triples of slices that is no slice.
+fn unlisted_slice(alloc: Global, side: &Side) -> Result<Option<&Name>, AllocError>
+    ensures { IfOk result (λ name. option_copied name ≡ side_form.first_outside
+        (side_form.names_of_triples side.now.triples) (side_form.cell_names side.now.slices)) }
+{
+    let slices = cell_names(alloc, side.slices.as_slice())?;
+    let entries = slice_entries(alloc, side)?;
+    first_outside(alloc, &entries, &slices)
+}
+
+// The first name in the triples of pads that is no pad.
+fn unlisted_pad(alloc: Global, side: &Side) -> Result<Option<&Name>, AllocError>
+    ensures { IfOk result (λ name. option_copied name ≡ side_form.first_outside
+        (side_form.names_of_triples (side_form.pad_triples side.now)) (side_form.cell_names side.now.pads)) }
+{
+    let pads = cell_names(alloc, side.pads.as_slice())?;
+    let entries = pad_entries(alloc, side)?;
+    first_outside(alloc, &entries, &pads)
+}
+
+// The first name in voters that is no slice.
+fn unlisted_voter(alloc: Global, side: &Side) -> Result<Option<&Name>, AllocError>
+    ensures { IfOk result (λ name. option_copied name ≡ side_form.first_outside
+        (map (λ voter. voter.slice) side.now.voters) (side_form.cell_names side.now.slices)) }
+{
+    let slices = cell_names(alloc, side.slices.as_slice())?;
+    let voters = voter_names(alloc, side.voters.as_slice())?;
+    first_outside(alloc, &voters, &slices)
+}
+
 /// The first name that isn't listed as what it is used as: slices in triples, pads in inputs, outputs and clocks, and
 /// slices in voters.
 pub(crate) fn unknown_name(alloc: Global, side: &Side) -> Result<Option<&Name>, AllocError>
     ensures { IfOk result (λ name. side_form.unknown_name side.now
         ≡ option_map side_form.SideFault.UnknownName (option_copied name)) }
 {
+    if let Some(name) = unlisted_slice(alloc, side)? {
+        return Ok(Some(name));
+    }
+    if let Some(name) = unlisted_pad(alloc, side)? {
+        return Ok(Some(name));
+    }
+    unlisted_voter(alloc, side)
+}
+
+// The first slice that is in no triple.
+fn lone_slice(alloc: Global, side: &Side) -> Result<Option<&Name>, AllocError>
+    ensures { IfOk result (λ name. option_copied name ≡ side_form.first_outside
+        (side_form.cell_names side.now.slices) (side_form.names_of_triples side.now.triples)) }
+{
     let slices = cell_names(alloc, side.slices.as_slice())?;
-    let unlisted = first_outside(alloc, &slice_entries(alloc, side)?, &slices)?;
-    if unlisted.is_some() {
-        return Ok(unlisted);
-    }
+    let entries = slice_entries(alloc, side)?;
+    first_outside(alloc, &slices, &entries)
+}
+
+// The first pad that is in no triple.
+fn lone_pad(alloc: Global, side: &Side) -> Result<Option<&Name>, AllocError>
+    ensures { IfOk result (λ name. option_copied name ≡ side_form.first_outside
+        (side_form.cell_names side.now.pads) (side_form.names_of_triples (side_form.pad_triples side.now))) }
+{
     let pads = cell_names(alloc, side.pads.as_slice())?;
-    let unlisted = first_outside(alloc, &pad_entries(alloc, side)?, &pads)?;
-    if unlisted.is_some() {
-        return Ok(unlisted);
-    }
-    first_outside(alloc, &voter_names(alloc, side.voters.as_slice())?, &slices)
+    let entries = pad_entries(alloc, side)?;
+    first_outside(alloc, &pads, &entries)
 }
 
 /// The first cell that is in no triple.
@@ -71,11 +117,8 @@ pub(crate) fn unpaired(alloc: Global, side: &Side) -> Result<Option<&Name>, Allo
     ensures { IfOk result (λ name. side_form.unpaired side.now
         ≡ option_map side_form.SideFault.Unpaired (option_copied name)) }
 {
-    let slices = cell_names(alloc, side.slices.as_slice())?;
-    let lone = first_outside(alloc, &slices, &slice_entries(alloc, side)?)?;
-    if lone.is_some() {
-        return Ok(lone);
+    if let Some(name) = lone_slice(alloc, side)? {
+        return Ok(Some(name));
     }
-    let pads = cell_names(alloc, side.pads.as_slice())?;
-    first_outside(alloc, &pads, &pad_entries(alloc, side)?)
+    lone_pad(alloc, side)
 }

@@ -84,7 +84,5 @@ pub fn read(alloc: Global, bytes: &[u8]) -> Result<Side, SideError>
     if file.as_object().is_none() {
         return Err(SideError::BadShape(Text::new(alloc, b".")?));
     }
-    let side = side_in(alloc, &file)?;
-    checked(alloc, &side)?;
-    Ok(side)
+    checked(alloc, side_in(alloc, &file)?)
 }

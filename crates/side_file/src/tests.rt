@@ -33,53 +33,54 @@ fn named(error: &SideError) -> (&'static str, &[u8]) {
 }
 
 #[test]
+fn texts_of_other_forms_are_refused(rt: HostRuntime) -> Result<(), Fail> {
+    for (text, wanted) in [("{", ("NotJson", "")), ("[]", ("BadShape", "."))] {
+        let error = read(rt.alloc(), text.as_bytes()).err().ok_or("a refusal")?;
+        let (kind, what) = named(&error);
+        assert!(rt; kind == wanted.0 && what == wanted.1.as_bytes(), "{text}");
+    }
+    Ok(())
+}
+
+#[test]
 fn faulty_side_files_are_refused(rt: HostRuntime) -> Result<(), Fail> {
-    // what stands in the toggle's text, what stands in its place, and the refusal
+    // what stands in the toggle's text, what takes its place, and the refusal
     let cases = [
-        ("{", "{{", "NotJson", ""),
-        ("\"S0\",1]", "\"S0\",0]", "WrongDomain", "a1"),
+        (
+            "\"R1C2:MLC\",\"S0\",1]",
+            "\"R1C2:MLC\",\"S0\",0]",
+            ("WrongDomain", "a1"),
+        ),
         (
             "[\"a1\",\"R1C2:MLC\"",
             "[\"a0\",\"R1C2:MLC\"",
-            "DuplicateName",
-            "a0",
+            ("DuplicateName", "a0"),
         ),
         (
             "[\"a1\",\"R1C2:MLC\"",
             "[\"a1\",\"R1C1:MLC\"",
-            "DuplicateName",
-            "a1",
+            ("DuplicateName", "a1"),
         ),
+        ("[\"a1\",0]", "[\"a0\",0]", ("DuplicateName", "a0")),
+        ("\"a1\",\"a2\"]", "\"a1\",\"k2\"]", ("UnknownName", "k2")),
+        ("[\"a2\",0]", "[\"k2\",0]", ("UnknownName", "k2")),
+        ("[[\"a0\",\"a1\",\"a2\"]]", "[]", ("Unpaired", "a0")),
         (
-            "[\"o0\",\"o1\",\"o2\"]",
-            "[\"o0\",\"o1\",\"k2\"]",
-            "DuplicateName",
-            "k2",
+            "[[\"k0\",\"k1\",\"k2\"]]",
+            "[[],[]]",
+            ("BadShape", "clocks"),
         ),
-        ("[\"a1\",0]", "[\"a0\",0]", "DuplicateName", "a0"),
-        (
-            "[\"a0\",\"a1\",\"a2\"]",
-            "[\"a0\",\"a1\",\"a3\"]",
-            "UnknownName",
-            "a3",
-        ),
-        ("[\"a2\",0]", "[\"k2\",0]", "UnknownName", "k2"),
-        ("[[\"a0\",\"a1\",\"a2\"]]", "[]", "Unpaired", "a0"),
-        ("[[\"k0\",\"k1\",\"k2\"]]", "[[],[]]", "BadShape", "clocks"),
         (
             "[\"a0\",\"R1C1:MLC\",\"S0\",0]",
             "[\"a0\",\"R1C1:MLC\",\"S0\"]",
-            "BadShape",
-            "slices.0",
+            ("BadShape", "slices.0"),
         ),
     ];
-    for (old, new, kind, what) in cases {
+    for (old, new, wanted) in cases {
         let text = toggle().replacen(rt.alloc(), old, new, 1)?;
         let error = read(rt.alloc(), text.as_bytes()).err().ok_or("a refusal")?;
-        let (found, told) = named(&error);
-        assert!(rt; found == kind && told == what.as_bytes(), "{new}");
+        let (kind, what) = named(&error);
+        assert!(rt; kind == wanted.0 && what == wanted.1.as_bytes(), "{new}");
     }
-    let error = read(rt.alloc(), b"[]").err().ok_or("a refusal")?;
-    assert!(rt; named(&error).1 == b".".as_slice());
     Ok(())
 }

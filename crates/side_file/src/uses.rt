@@ -83,13 +83,13 @@ pub(crate) fn second_use(alloc: Global, side: &Side) -> Result<Option<&Name>, Al
     ensures { IfOk result (λ name. side_form.second_use side.now
         ≡ option_map side_form.SideFault.DuplicateName (option_copied name)) }
 {
-    let again = second_cell(alloc, &cells(alloc, side)?)?;
-    if again.is_some() {
-        return Ok(again);
+    let cells = cells(alloc, side)?;
+    if let Some(name) = second_cell(alloc, &cells)? {
+        return Ok(Some(name));
     }
-    let again = second_name(alloc, &entries(alloc, side)?)?;
-    if again.is_some() {
-        return Ok(again);
+    let entries = entries(alloc, side)?;
+    if let Some(name) = second_name(alloc, &entries)? {
+        return Ok(Some(name));
     }
     second_voter(alloc, side.voters.as_slice())
 }

@@ -37,10 +37,10 @@ loop-cell-preserved c =
     (record {
       names = one_more_cell _ cell c.loop-cell.names c.insert.new.self c.loop-cell.invariant.names (rw (c.in_ok-copy.ensures ∙ name) at c.in_ok-is_new.ensures.updates.0);
       sites =
-        one_more_site _ cell c.loop-cell.sites c.insert-in-loop-cell.new.self c.loop-cell.invariant.sites
-        (rw (c.in_ok-copy-2.ensures ∙ tile, c.in_ok-copy-3.ensures ∙ kind) at c.in_ok-is_free.ensures.updates.0);
+          one_more_site _ cell c.loop-cell.sites c.insert-in-loop-cell.new.self c.loop-cell.invariant.sites
+          (rw (c.in_ok-copy-2.ensures ∙ tile, c.in_ok-copy-3.ensures ∙ kind) at c.in_ok-is_free.ensures.updates.0);
       rest =
-        faultless cell_fault _ _ _ cell _ c.loop-cell.invariant.rest
-        (left (λ p. p.now) c.args.cells.now c.loop-cell.cell-index c.cell-item.result c.loop-cell-test.true c.cell-item.is)
-        (cell_is_new _ cell c.loop-cell.names c.loop-cell.sites c.loop-cell.invariant.names c.loop-cell.invariant.sites (sym named ∙ c.if-not-is_new.false) (sym sited ∙ c.if-not-is_free.false));
+          faultless cell_fault _ _ _ cell _ c.loop-cell.invariant.rest
+          (left (λ p. p.now) c.args.cells.now c.loop-cell.cell-index c.cell-item.result c.loop-cell-test.true c.cell-item.is)
+          (cell_is_new _ cell c.loop-cell.names c.loop-cell.sites c.loop-cell.invariant.names c.loop-cell.invariant.sites (sym named ∙ c.if-not-is_new.false) (sym sited ∙ c.if-not-is_free.false));
     })

@@ -9,5 +9,5 @@ abbrev pub invariant-loop-cell : goal.invariant-loop-cell
 invariant-loop-cell l = record {
   names : KnowsCells l.names (map (λ c. c.now) (take l.cell-index l.cells));
   sites : KnowsSites l.sites (map (λ c. c.now) (take l.cell-index l.cells));
-  rest : first_fault_after cell_fault (map (λ c. c.now) (take l.cell-index l.cells)) (map (λ c. c.now) (drop l.cell-index l.cells)) ≡ first_fault cell_fault (map (λ c. c.now) l.cells)
+  rest : first_fault_after cell_fault (map (λ c. c.now) (take l.cell-index l.cells)) (map (λ c. c.now) (drop l.cell-index l.cells)) ≡ first_fault cell_fault (map (λ c. c.now) l.cells);
 }

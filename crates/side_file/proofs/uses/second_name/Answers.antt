@@ -23,7 +23,7 @@ loop-name-preserved c =
     (record {
       names = one_more_name _ name c.loop-name.known c.insert.new.self c.loop-name.invariant.names (rw c.in_ok-copy.ensures at c.in_ok-insert.ensures.updates.0);
       rest =
-        faultless entry_fault _ _ _ name _ c.loop-name.invariant.rest
-        (left (λ n. n.now) c.args.names.now c.loop-name.name-index c.name-item.result c.loop-name-test.true c.name-item.is)
-        (entry_is_new _ name c.loop-name.known c.loop-name.invariant.names (sym added ∙ c.if-not-branch.false));
+          faultless entry_fault _ _ _ name _ c.loop-name.invariant.rest
+          (left (λ n. n.now) c.args.names.now c.loop-name.name-index c.name-item.result c.loop-name-test.true c.name-item.is)
+          (entry_is_new _ name c.loop-name.known c.loop-name.invariant.names (sym added ∙ c.if-not-branch.false));
     })

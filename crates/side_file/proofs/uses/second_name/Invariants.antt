@@ -8,5 +8,5 @@ use Rattle.side_file.proofs.uses.second_name.Given as goal
 abbrev pub invariant-loop-name : goal.invariant-loop-name
 invariant-loop-name l = record {
   names : KnowsNames l.known (map (λ n. n.now) (take l.name-index l.names));
-  rest : first_fault_after entry_fault (map (λ n. n.now) (take l.name-index l.names)) (map (λ n. n.now) (drop l.name-index l.names)) ≡ first_fault entry_fault (map (λ n. n.now) l.names)
+  rest : first_fault_after entry_fault (map (λ n. n.now) (take l.name-index l.names)) (map (λ n. n.now) (drop l.name-index l.names)) ≡ first_fault entry_fault (map (λ n. n.now) l.names);
 }

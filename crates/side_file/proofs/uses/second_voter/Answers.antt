@@ -30,6 +30,6 @@ loop-voter-preserved c =
     (record {
       voters = one_more_voter _ voter c.loop-voter.known c.insert.new.self c.loop-voter.invariant.voters (rw (c.in_ok-copy.ensures ∙ slice, table) at c.in_ok-insert.ensures.updates.0);
       rest =
-        faultless voter_fault _ _ _ voter _ c.loop-voter.invariant.rest (left_plain c.args.voters.now c.loop-voter.voter-index voter c.loop-voter-test.true c.voter-item.is)
-        (voter_is_new _ voter c.loop-voter.known c.loop-voter.invariant.voters (sym added ∙ c.if-not-branch.false));
+          faultless voter_fault _ _ _ voter _ c.loop-voter.invariant.rest (left_plain c.args.voters.now c.loop-voter.voter-index voter c.loop-voter-test.true c.voter-item.is)
+          (voter_is_new _ voter c.loop-voter.known c.loop-voter.invariant.voters (sym added ∙ c.if-not-branch.false));
     })

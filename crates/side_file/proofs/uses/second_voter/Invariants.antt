@@ -8,5 +8,5 @@ use Rattle.side_file.proofs.uses.second_voter.Given as goal
 abbrev pub invariant-loop-voter : goal.invariant-loop-voter
 invariant-loop-voter l = record {
   voters : KnowsVoters l.known (take l.voter-index l.voters);
-  rest : first_fault_after voter_fault (take l.voter-index l.voters) (drop l.voter-index l.voters) ≡ first_fault voter_fault l.voters
+  rest : first_fault_after voter_fault (take l.voter-index l.voters) (drop l.voter-index l.voters) ≡ first_fault voter_fault l.voters;
 }
