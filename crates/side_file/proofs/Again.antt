@@ -1,8 +1,8 @@
 -- A second use is one that a set knows.
-use Rattle.std.proofs.Common.{◌≡◌, ℕ, List, Bool, true, false, cond, ◌||◌, not, Option, Some, None, bytes_eq, refl, ap, sym, ◌∙◌}
+use Rattle.std.proofs.Common.{◌≡◌, ℕ, List, Bool, true, false, cond, ◌||◌, not, Some, None, bytes_eq, refl, ap, ◌∙◌}
 use Rattle.std.specs.BTreeSet.{BTreeSet, contains}
 use Rattle.records.specs.Side.{Placed, Voter}
-use Rattle.side_form.specs.Side.{SideFault, DuplicateName, cell_fault, same_site, entry_fault, voter_fault}
+use Rattle.side_form.specs.Side.{DuplicateName, cell_fault, same_site, entry_fault, voter_fault}
 use Rattle.side_file.specs.Known.{name_order, Site, site_order, Table, table_order, KnowsNames, KnowsCells, KnowsSites, KnowsVoters}
 use Rattle.side_file.proofs.Walks.{any_of_two}
 

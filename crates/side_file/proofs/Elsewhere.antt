@@ -1,5 +1,5 @@
 -- The first entry in another domain, in one list of triples after another.
-use Rattle.std.proofs.Common.{◌≡◌, ℕ, List, ◌++◌, Bool, not, find, Option, Some, None, refl, ap, ◌∙◌}
+use Rattle.std.proofs.Common.{◌≡◌, ℕ, List, ◌++◌, not, find, Option, Some, None, refl, ap, ◌∙◌}
 use Rattle.std.specs.Option.{option_map, option_or}
 use Rattle.std.specs.List.{flat_map}
 use Rattle.std.proofs.lemmas.Grind.{flat_map-append}

@@ -1,9 +1,8 @@
 -- Walks through a list: the elements so far, and the rest.
-use Rattle.std.proofs.Common.{◌≡◌, ℕ, ◌+◌, ◌<◌, length, List, [], ◌∷◌, ◌++◌, map, take, drop, get_or, Bool, true, false, cond, ◌||◌, not, find, Option, Some, None, refl, ap, sym, ◌∙◌}
-use Rattle.std.specs.Option.{option_map, option_or}
+use Rattle.std.proofs.Common.{◌≡◌, ℕ, ◌+◌, ◌<◌, length, List, [], ◌∷◌, ◌++◌, map, take, drop, get_or, Bool, true, false, cond, ◌||◌, find, Option, Some, None, refl, ap, sym, ◌∙◌}
 use Rattle.std.specs.List.{list_any}
 use Rattle.std.proofs.lemmas.List.{take_more, drop_more, map-append}
-use Rattle.words.specs.Firsts.{first_fault_after, first_fault, or_else}
+use Rattle.words.specs.Firsts.{first_fault_after, or_else}
 
 -- ---- one element further
 

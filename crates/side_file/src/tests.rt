@@ -62,7 +62,7 @@ fn faulty_side_files_are_refused(rt: HostRuntime) -> Result<(), Fail> {
             ("DuplicateName", "a1"),
         ),
         ("[\"a1\",0]", "[\"a0\",0]", ("DuplicateName", "a0")),
-        ("\"a1\",\"a2\"]", "\"a1\",\"k2\"]", ("UnknownName", "k2")),
+        ("\"a1\",\"a2\"]", "\"a1\",\"a3\"]", ("UnknownName", "a3")),
         ("[\"a2\",0]", "[\"k2\",0]", ("UnknownName", "k2")),
         ("[[\"a0\",\"a1\",\"a2\"]]", "[]", ("Unpaired", "a0")),
         (

@@ -1,4 +1,4 @@
-use Rattle.std.proofs.Common.{◌≡◌, true, false, ap, sym, ◌∙◌, rules}
+use Rattle.std.proofs.Common.{◌≡◌, ap, sym, ◌∙◌}
 use Rattle.records.specs.Side.{Placed}
 use Rattle.side_form.specs.Side.{same_domain}
 use Rattle.rr_ids.specs.Domains.{domain_of}

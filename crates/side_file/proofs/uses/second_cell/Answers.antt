@@ -1,8 +1,6 @@
-use Rattle.std.proofs.Common.{◌≡◌, ℕ, List, map, take, inl, inr, not, ap, sym, ◌∙◌, Some}
-use Rattle.std.specs.BTreeSet.{contains}
+use Rattle.std.proofs.Common.{◌≡◌, map, take, inl, inr, ap, sym, ◌∙◌, Some}
 use Rattle.records.specs.Side.{Placed}
 use Rattle.side_form.specs.Side.{DuplicateName, cell_fault}
-use Rattle.side_file.specs.Known.{name_order, site_order}
 use Rattle.side_file.proofs.Again.{cell_named_before, cell_sited_before, cell_is_new}
 use Rattle.side_file.proofs.Sets.{one_more_cell, one_more_site}
 use Rattle.side_file.proofs.Walks.{so_far, left, faulty, faultless}

@@ -1,7 +1,5 @@
-use Rattle.std.proofs.Common.{◌≡◌, ℕ, List, not, ap, sym, ◌∙◌}
-use Rattle.std.specs.BTreeSet.{contains}
+use Rattle.std.proofs.Common.{sym, ◌∙◌}
 use Rattle.side_form.specs.Side.{DuplicateName, entry_fault}
-use Rattle.side_file.specs.Known.{name_order}
 use Rattle.side_file.proofs.Again.{entry_used, entry_is_new}
 use Rattle.side_file.proofs.Sets.{one_more_name}
 use Rattle.side_file.proofs.Walks.{so_far, left, faulty, faultless}

@@ -1,9 +1,6 @@
-use Rattle.std.proofs.Common.{◌≡◌, ℕ, List, not, ap, sym, ◌∙◌}
-use Rattle.std.proofs.lemmas.List.{take_more, drop_more}
-use Rattle.std.specs.BTreeSet.{contains}
+use Rattle.std.proofs.Common.{◌≡◌, ap, sym, ◌∙◌}
 use Rattle.records.specs.Side.{Voter}
 use Rattle.side_form.specs.Side.{DuplicateName, voter_fault}
-use Rattle.side_file.specs.Known.{Table, table_order}
 use Rattle.side_file.proofs.Again.{voter_used, voter_is_new}
 use Rattle.side_file.proofs.Sets.{one_more_voter}
 use Rattle.side_file.proofs.Walks.{so_far_plain, left_plain, faulty, faultless}
