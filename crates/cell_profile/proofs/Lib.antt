@@ -1,4 +1,3 @@
-pub mod Elements
 pub mod KindNames
 pub mod KindShapes
 pub mod Refused

@@ -1,4 +1,3 @@
 pub mod Takes
 pub mod Faults
-pub mod Elements
 pub mod Known

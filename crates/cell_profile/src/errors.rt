@@ -1,5 +1,6 @@
 //! Why a profile isn't read.
 
+use json_values::ListError;
 use rr_ids::{Limit, Text};
 use std::alloc::{AllocError, AllocFailed};
 use thiserror::Error;
@@ -40,5 +41,20 @@ impl<T: Drop> From<AllocFailed<T>> for ProfileError {
 
     fn from(_error: AllocFailed<T>) -> ProfileError {
         ProfileError::Memory
+    }
+}
+
+impl From<ListError> for ProfileError {
+    ghost use Rattle.cell_profile.specs.Faults.{of_list};
+    ghost use Rattle.std.specs.Prelude.{◌≡◌};
+
+    ghost from_gives = { λ error e. e ≡ of_list error };
+
+    fn from(error: ListError) -> ProfileError {
+        match error {
+            ListError::BadShape(key) => ProfileError::BadShape(key),
+            ListError::TooLarge(limit) => ProfileError::TooLarge(limit),
+            ListError::Memory => ProfileError::Memory,
+        }
     }
 }

@@ -1,54 +1,16 @@
-//! How an element of a list stands behind those before it.
+//! How a kind stands behind those before it.
 
-ghost use Rattle.std.specs.Prelude.{◌≡◌, ◌∷◌, ◌++◌, [], List, map, IfOk, OnOk};
+ghost use Rattle.std.specs.Prelude.{◌≡◌, ◌++◌, [], map, IfOk};
 ghost use Rattle.json_forms.specs.KindRules.{slice_name, pad_name};
-ghost use Rattle.json_forms.specs.Profile.{Verdict as VerdictSpec, Fits, any_form, slice_verdict, pad_verdict};
-ghost use Rattle.cell_profile.specs.Elements.{verdict_of};
+ghost use Rattle.json_forms.specs.Profile.{slice_verdict, pad_verdict};
 ghost use Rattle.cell_profile.specs.Known.{KnowsNames, KnowsShapes};
 
 use crate::known::{KindNames, Shapes, add_name, fits_shape, names_of_slices};
 use crate::rules::{pad_stands, parts_fit, slice_stands};
 use crate::{PadKind, SliceKind};
+use json_values::{Judge, Verdict};
 use rr_ids::{Limit, Name};
 use std::alloc::{AllocError, Global};
-
-/// How an element stands behind those before it.
-#[derive(Clone, Copy, Debug)]
-pub(crate) enum Verdict {
-    Fits,
-    Misfits,
-    Exceeds(Limit),
-}
-
-/// What judges the elements of a list, and keeps what it has to know of them.
-pub(crate) trait Judge<T> {
-    /// The verdict on an element behind others.
-    ghost verdict: { Self → List T → T → VerdictSpec };
-
-    /// What it knows is that of these elements.
-    ghost Knows: { Self → List T → Type 0 };
-
-    /// The verdict on an element behind others, which is known from then on if it fits.
-    fn judge(&mut self, earlier: &[T], element: &T) -> Result<Verdict, AllocError>
-        requires { Knows self.old earlier.now }
-        ensures verdict { IfOk result (λ it. verdict_of it ≡ verdict self.old earlier.now element.now) }
-        ensures knows { IfOk result (λ it. verdict_of it ≡ Fits → Knows self.new (earlier.now ++ element.now ∷ [])) }
-        ensures same { OnOk result (verdict self.new ≡ verdict self.old) };
-}
-
-/// Takes each element.
-#[derive(Clone, Copy, Debug)]
-pub(crate) struct AnyForm;
-
-impl<T> Judge<T> for AnyForm {
-    ghost verdict = { λ _. any_form };
-
-    ghost Knows = { λ _ _. Unit {0} };
-
-    fn judge(&mut self, _earlier: &[T], _element: &T) -> Result<Verdict, AllocError> {
-        Ok(Verdict::Fits)
-    }
-}
 
 /// The rules of slice kinds. The names and shapes are those of the kinds judged so far.
 #[derive(Drop)]

@@ -6,7 +6,6 @@ mod errors;
 mod judges;
 mod kinds;
 mod known;
-mod members;
 mod profile;
 mod rules;
 mod takes;

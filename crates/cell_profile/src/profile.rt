@@ -11,10 +11,9 @@ ghost use Rattle.json_forms.specs.Kinds.{join_in, slice_in, pad_in};
 ghost use Rattle.json_forms.specs.Profile.{list_read, any_form, slice_verdict, pad_verdict, profile_of, profile_of_value as profile_of_value_spec};
 ghost use Rattle.cell_profile.specs.Faults.{fault_of};
 
-use crate::judges::{AnyForm, PadJudge, SliceJudge};
-use crate::members::read_list;
+use crate::judges::{PadJudge, SliceJudge};
 use crate::{Join, PadKind, ProfileError, SliceKind};
-use json_values::FormError;
+use json_values::{AnyForm, FormError, read_list};
 use rr_ids::{List, Name, Rules, Text};
 use serde_json::Value;
 use std::alloc::Global;
@@ -57,7 +56,7 @@ fn names(alloc: Global, file: &Value, member: &str) -> Result<List<Name>, Profil
         (list_read member.now name_in any_form (view file.now)) }
 {
     let mut judge = AnyForm;
-    read_list::<Name, AnyForm>(alloc, file, member, &mut judge)
+    Ok(read_list::<Name, AnyForm>(alloc, file, member, &mut judge)?)
 }
 
 // The connections that are always there.
@@ -66,7 +65,7 @@ fn joins(alloc: Global, file: &Value) -> Result<List<Join>, ProfileError>
         (list_read (codes "joins") join_in any_form (view file.now)) }
 {
     let mut judge = AnyForm;
-    read_list::<Join, AnyForm>(alloc, file, "joins", &mut judge)
+    Ok(read_list::<Join, AnyForm>(alloc, file, "joins", &mut judge)?)
 }
 
 // The kinds of slices.
@@ -79,7 +78,7 @@ fn slices(
         (list_read (codes "slices") slice_in (slice_verdict other_chips.now) (view file.now)) }
 {
     let mut judge = SliceJudge::new(alloc, other_chips);
-    read_list::<SliceKind, SliceJudge>(alloc, file, "slices", &mut judge)
+    Ok(read_list::<SliceKind, SliceJudge>(alloc, file, "slices", &mut judge)?)
 }
 
 // The kinds of pads, which stand behind those of slices.
@@ -93,7 +92,7 @@ fn pads(
         (list_read (codes "pads") pad_in (pad_verdict other_chips.now slices.now) (view file.now)) }
 {
     let mut judge = PadJudge::new(alloc, other_chips, slices)?;
-    read_list::<PadKind, PadJudge>(alloc, file, "pads", &mut judge)
+    Ok(read_list::<PadKind, PadJudge>(alloc, file, "pads", &mut judge)?)
 }
 
 // The profile that an object is.
