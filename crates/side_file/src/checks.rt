@@ -1,6 +1,6 @@
 //! What the lists of a side file keep beside their forms.
 
-ghost use Rattle.std.specs.Prelude.{◌≡◌, option_map};
+ghost use Rattle.std.specs.Prelude.{◌≡◌, option_map, nat_lt};
 ghost use Rattle.words.specs.OrMemory.{OrMemory};
 ghost use Rattle.rr_ids.specs.Limits.{limit_of};
 ghost use Rattle.json_forms.specs.Faults as form;
@@ -20,15 +20,22 @@ const MOST_SLICES: usize = 262_144;
 
 const MOST_PADS: usize = 65_536;
 
+// Whether a count is above the most that there may be.
+fn exceeds(count: usize, most: usize) -> bool
+    ensures { result ≡ nat_lt most count }
+{
+    count > most
+}
+
 // The limit that is passed.
 fn size_fault(side: &Side) -> Option<Limit>
     ensures { size_fault_spec side.now
         ≡ option_map (λ limit. SideFault.OfForm (form.FormFault.TooLarge (limit_of limit))) result }
 {
-    if side.slices.len() > MOST_SLICES {
+    if exceeds(side.slices.len(), MOST_SLICES) {
         return Some(Limit::Slices);
     }
-    if side.pads.len() > MOST_PADS {
+    if exceeds(side.pads.len(), MOST_PADS) {
         return Some(Limit::Pads);
     }
     None
