@@ -1,0 +1,4 @@
+pub mod ByType
+pub mod Lists
+pub mod SameNames
+pub mod InOrder
