@@ -74,3 +74,11 @@ found_others old new kind db updated other apart =
     found new other
     ∙ ap (option_map (of_name other)) (updated other ∙ ap (λ b. cond b (Some db) (lookup (is_at (slice_cmp nat_cmp other)) old)) (text_ties kind other ∙ bytes_differ other kind apart))
     ∙ sym (found old other)
+
+-- the database that is found of a name
+pub found_db : (entries : List (List ℕ × TileDb)) (kind : List ℕ) → option_map (λ t. t.db) (type_named (map type_db entries) kind) ≡ lookup (is_at (slice_cmp nat_cmp kind)) entries
+found_db entries kind = ap (option_map (λ t. t.db)) (found entries kind) ∙ back (lookup (is_at (slice_cmp nat_cmp kind)) entries)
+  where
+    back : (o : Option TileDb) → option_map (λ t. t.db) (option_map (of_name kind) o) ≡ o
+    back None = refl
+    back (Some db) = refl

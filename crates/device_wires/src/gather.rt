@@ -74,7 +74,8 @@ pub(crate) fn gather<'a>(alloc: Global, device: &Device<'a>) -> Result<Gathered<
     let mut wires = Gathered::new(alloc);
     let mut types = TypeNames::new(alloc);
     let grid = device.grid;
-    for tile in grid.tiles.as_slice() {
+    let tiles = grid.tiles.as_slice();
+    for tile in tiles {
         add_tile(alloc, &mut wires, &mut types, device, tile)?;
     }
     Ok(wires)

@@ -17,3 +17,6 @@ pub use databases::Databases;
 pub use device::Device;
 pub use errors::WiresError;
 pub use wires::{Wires, wires_of};
+
+#[cfg(test)]
+mod tests;
