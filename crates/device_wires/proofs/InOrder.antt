@@ -13,7 +13,10 @@ use Rattle.fabric_laws.specs.Insertion.{inserted}
 use Rattle.fabric_laws.proofs.Orders.{wire_total, wire_same, same_wire_is}
 use Rattle.fabric_laws.proofs.Members.{any_from}
 use Rattle.fabric_laws.proofs.Sorted.{inserted_from, inserted_old, inserted_new, inserted_rising}
+use Rattle.fabric.specs.GraphOf.{number_of}
 use Rattle.wire_names.specs.Kept.{HasShortBase, most_wires}
+use Rattle.wire_names.proofs.Numbers.{no_number}
+use Rattle.std.proofs.lemmas.List.{length-append}
 use Rattle.device_wires.specs.Gathered.{gathered, AreGathered}
 
 -- in two parts
@@ -130,3 +133,21 @@ stands_once (x ∷ front) rest w r i = elim i [
 
     never : (z : Wire) → wire_cmp z z ≡ Less → ⊥
     never z less = let tied = tied_itself wire_total z in let no : ⊥ = cc in no
+
+-- a wire that is numbered next: those before it are numbered, it can be kept, and there is a number for it
+pub record IsNext (numbered : List Wire) (wire : Wire) : Type 0 where
+  pub new : number_of numbered wire ≡ None
+  pub short : HasShortBase wire
+  pub room : length numbered < most_wires
+
+-- so is each of wires in order, behind those before it
+pub is_next : (front rest whole : List Wire) (w : Wire) → AreGathered whole → front ++ w ∷ rest ≡ whole → IsNext front w
+is_next front rest whole w are parts = record {
+  new = (no_number front w).1 (stands_once front rest w (subst (IsRising wire_cmp) (sym parts) are.rising));
+  short = are.short w (subst (λ ws. In ws w) parts (behind front));
+  room = (let count = ap length (sym parts) ∙ length-append front (w ∷ rest) in let few = are.few in omega arith);
+}
+  where
+    behind : (xs : List Wire) → In (xs ++ w ∷ rest) w
+    behind [] = inl refl
+    behind (y ∷ ys) = inr (behind ys)

@@ -12,7 +12,7 @@ pub flat_more : {X A : Type 0} (f : X → List A) (front : List A) (xs : List X)
     → front ++ flat_map f (take (i + 1) xs) ≡ (front ++ flat_map f (take i xs)) ++ f (get_or xs i d)
 flat_more f front xs i d h =
     ap (λ ys. front ++ flat_map f ys) (take_more xs i d h)
-    ∙ ap (λ as. front ++ as) (flat_map-append f (take i xs) (get_or xs i d ∷ []) ∙ ap (λ as. flat_map f (take i xs) ++ as) (append-nil (f (get_or xs i d))))
+    ∙ ap (λ pieces. front ++ pieces) (flat_map-append f (take i xs) (get_or xs i d ∷ []) ∙ ap (λ pieces. flat_map f (take i xs) ++ pieces) (append-nil (f (get_or xs i d))))
     ∙ sym (append_assoc front (flat_map f (take i xs)) (f (get_or xs i d)))
 
 -- one element more, which counts where it passes
@@ -20,7 +20,7 @@ pub flat_filter_more : {X : Type 0} (f : X → List (List ℕ)) (p : X → Bool)
     → front ++ flat_map f (filter p (take (i + 1) xs)) ≡ (front ++ flat_map f (filter p (take i xs))) ++ names_if (p (get_or xs i d)) (f (get_or xs i d))
 flat_filter_more f p front xs i d h =
     ap (λ ys. front ++ flat_map f ys) (filter_more p xs i d h)
-    ∙ ap (λ as. front ++ as) (flat_map-append f (filter p (take i xs)) (cond (p (get_or xs i d)) (get_or xs i d ∷ []) []) ∙ ap (λ as. flat_map f (filter p (take i xs)) ++ as) (alone (p (get_or xs i d))))
+    ∙ ap (λ pieces. front ++ pieces) (flat_map-append f (filter p (take i xs)) (cond (p (get_or xs i d)) (get_or xs i d ∷ []) []) ∙ ap (λ pieces. flat_map f (filter p (take i xs)) ++ pieces) (alone (p (get_or xs i d))))
     ∙ sym (append_assoc front (flat_map f (filter p (take i xs))) (names_if (p (get_or xs i d)) (f (get_or xs i d))))
   where
     alone : (b : Bool) → flat_map f (cond b (get_or xs i d ∷ []) []) ≡ names_if b (f (get_or xs i d))

@@ -8,7 +8,9 @@ use Rattle.records.specs.Database.{Arc, Mux, Fixed}
 use Rattle.records.specs.Grid.{Tile}
 use Rattle.records.specs.Profile.{Rules}
 use Rattle.fabric.specs.Wires.{Wire}
-use Rattle.fabric.specs.WireNames.{Ignored}
+use Rattle.fabric.specs.WireNames.{WireName, Named, Ignored}
+use Rattle.fabric.specs.GraphOf.{number_of, number_in}
+use Rattle.wire_names.specs.Kept.{number_of_name}
 use Rattle.fabric.specs.WireOfName.{wire_of_name, wire_at, relative_of, without_chip, Relative}
 use Rattle.fabric.specs.Device.{Device, database_of, fixed_at, output_names, input_names}
 use Rattle.fabric.specs.TileWires.{named_wire, wire_in, mux_wires, fixed_wires, tile_wires}
@@ -76,3 +78,22 @@ tile_wires_named device tile =
     (λ i. muxes_same i ++ fixed_same i ++ filter_map wire (output_names device tile ++ input_names device tile))
     ∙ ap (λ ws. ws ++ filter_map wire (output_names device tile ++ input_names device tile)) (sym (filter_map-append wire (flat_map (mux_names rules) muxes) (flat_map (fixed_names rules) fixed)))
     ∙ sym (filter_map-append wire (routing_names device tile) (output_names device tile ++ input_names device tile))
+
+-- at a tile's place names stand for the same wires as in the tile
+pub wires_at_place : (rules : Rules) (tile : Tile) (place : ℕ × ℕ) (names : List (List ℕ)) → tile.place ≡ Some place
+    → filter_map (λ name. named_wire (wire_of_name place name rules)) names ≡ filter_map (wire_in rules tile) names
+wires_at_place rules tile place names is = ap (λ here. filter_map (wire_here rules here) names) (sym is)
+
+-- in a tile without a place no name does
+pub no_wires : (rules : Rules) (tile : Tile) (names : List (List ℕ)) → tile.place ≡ None → filter_map (wire_in rules tile) names ≡ []
+no_wires rules tile names is = ap (λ here. filter_map (wire_here rules here) names) is ∙ none_here rules names
+
+-- the number of the wire of a name in a tile, as that of the wire at the tile's place
+pub number_at_place : (wires : List Wire) (rules : Rules) (tile : Tile) (place : ℕ × ℕ) (name : List ℕ) → tile.place ≡ Some place
+    → number_of_name wires (wire_of_name place name rules) ≡ number_in wires rules tile name
+number_at_place wires rules tile place name is =
+    numbered (wire_of_name place name rules) ∙ ap (λ here. option_and_then (number_of wires) (wire_here rules here name)) (sym is)
+  where
+    numbered : (w : WireName) → number_of_name wires w ≡ option_and_then (number_of wires) (named_wire w)
+    numbered (Named w) = refl
+    numbered Ignored = refl

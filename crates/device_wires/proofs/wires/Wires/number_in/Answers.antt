@@ -1,0 +1,13 @@
+use Rattle.std.proofs.Common.{◌≡◌, Some, ap, ◌∙◌, sym}
+use Rattle.records.specs.Grid.{Tile}
+use Rattle.fabric.specs.WireOfName.{wire_of_name}
+use Rattle.wire_names.specs.Kept.{number_of_name}
+use Rattle.device_wires.proofs.SameNames.{number_at_place}
+use Rattle.device_wires.proofs.wires.Wires.number_in.Goals as goal
+
+pub returns : goal.returns
+returns c =
+    let place : c.args.tile.now.place ≡ Some (c.in_ok-row.row, c.in_ok-row.col) = ap (λ (t : Tile). t.place) (sym c.tile.view_is) ∙ c.in_ok-row.was in
+    c.find.ensures
+    ∙ ap (number_of_name c.args.self.now) (c.place.ensures.computed ∙ ap (λ name. wire_of_name (c.in_ok-row.row, c.in_ok-row.col) name c.args.rules.now) c.bytes.ensures.same)
+    ∙ number_at_place c.args.self.now c.args.rules.now c.args.tile.now (c.in_ok-row.row, c.in_ok-row.col) c.args.name.now place
