@@ -3,3 +3,4 @@ pub mod InOrder
 pub mod KeyOrder
 pub mod Lists
 pub mod SameNames
+pub mod SoFar

@@ -1,21 +1,23 @@
 -- The names that count in a tile stand for the wires of the tile.
-use Rattle.std.proofs.Common.{◌≡◌, ℕ, List, [], ◌∷◌, ◌++◌, map, filter_map, Bool, true, false, ◌||◌, Option, Some, None, option_and_then, refl, sym, ap, ◌∙◌}
+use Rattle.std.proofs.Common.{◌≡◌, ℕ, List, [], ◌∷◌, ◌++◌, map, filter, filter_map, Bool, true, false, ◌||◌, bytes_eq, Option, Some, None, option_and_then, option_map, refl, sym, ap, ◌∙◌, append_assoc}
 use Rattle.std.specs.Prelude.{flat_map, if◌then◌else◌}
 use Rattle.std.specs.List.{cons_option}
 use Rattle.std.specs.Option.{option_map_or}
 use Rattle.std.proofs.lemmas.List.Elements.{filter_map-append}
+use Rattle.std.proofs.lemmas.List.Concat.{flat_map-append}
 use Rattle.records.specs.Database.{Arc, Mux, Fixed}
 use Rattle.records.specs.Grid.{Tile}
-use Rattle.records.specs.Profile.{Rules}
+use Rattle.records.specs.Profile.{Rules, Join}
 use Rattle.fabric.specs.Wires.{Wire}
 use Rattle.fabric.specs.WireNames.{WireName, Named, Ignored}
 use Rattle.fabric.specs.GraphOf.{number_of, number_in}
 use Rattle.wire_names.specs.Kept.{number_of_name}
 use Rattle.fabric.specs.WireOfName.{wire_of_name, wire_at, relative_of, without_chip, Relative}
-use Rattle.fabric.specs.Device.{Device, database_of, fixed_at, output_names, input_names}
+use Rattle.fabric.specs.Device.{TypeDb, Device, database_of, fixed_at, output_names, input_names}
 use Rattle.fabric.specs.TileWires.{named_wire, wire_in, mux_wires, fixed_wires, tile_wires}
-use Rattle.device_wires.specs.TileNames.{is_ignored, mux_names, fixed_names, routing_names, tile_names}
-use Rattle.device_wires.proofs.Lists.{filter_map-map, filter_map-flat_map, flat_same}
+use Rattle.device_wires.specs.TileNames.{is_ignored, mux_names, fixed_names, database_names, joined, routing_names, tile_names}
+use Rattle.device_wires.specs.Types.{type_named}
+use Rattle.device_wires.proofs.Lists.{filter_map-map, filter_map-flat_map, flat_map-map, flat_same}
 
 -- the wire of a name in a tile whose place may be wanting
 abbrev pub wire_here : Rules → Option (ℕ × ℕ) → List ℕ → Option Wire
@@ -97,3 +99,24 @@ number_at_place wires rules tile place name is =
     numbered : (w : WireName) → number_of_name wires w ≡ option_and_then (number_of wires) (named_wire w)
     numbered (Named w) = refl
     numbered Ignored = refl
+
+-- the names of a database that is found, then those of joins, are those of the tile's routing
+pub routing_same : (device : Device) (tile : Tile)
+    → database_names device.profile.rules (option_map (λ t. t.db) (type_named device.types tile.kind))
+    ++ flat_map (λ j. fixed_names device.profile.rules (joined j)) (filter (λ j. bytes_eq j.tile tile.kind) device.profile.joins)
+    ≡ routing_names device tile
+routing_same device tile =
+    let rules = device.profile.rules in
+    let joins = filter (λ (j : Join). bytes_eq j.tile tile.kind) device.profile.joins in
+    let db = database_of device.types tile in
+    let muxes = flat_map (mux_names rules) db.muxes in
+    ap (λ names. names ++ flat_map (λ j. fixed_names rules (joined j)) joins) (in_database rules (type_named device.types tile.kind))
+    ∙ append_assoc muxes (flat_map (fixed_names rules) db.fixed) (flat_map (λ j. fixed_names rules (joined j)) joins)
+    ∙ ap (λ names. muxes ++ (flat_map (fixed_names rules) db.fixed ++ names)) (sym (flat_map-map (fixed_names rules) joined joins))
+    ∙ ap (λ names. muxes ++ names) (sym (flat_map-append (fixed_names rules) db.fixed (map joined joins)))
+  where
+    in_database : (rules : Rules) (t : Option TypeDb) → database_names rules (option_map (λ t. t.db) t)
+        ≡ flat_map (mux_names rules) (option_map_or (λ t. t.db) t (record { muxes = []; words = []; enums = []; fixed = [] })).muxes
+        ++ flat_map (fixed_names rules) (option_map_or (λ t. t.db) t (record { muxes = []; words = []; enums = []; fixed = [] })).fixed
+    in_database rules None = refl
+    in_database rules (Some t) = refl

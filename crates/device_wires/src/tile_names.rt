@@ -22,7 +22,8 @@ fn add_routing<'a>(
     let databases = device.databases;
     let profile = device.profile;
     add_database(names, &profile.rules, databases.get(&tile.kind))?;
-    add_joins(names, &profile.rules, &tile.kind, profile.joins.as_slice())
+    add_joins(names, &profile.rules, &tile.kind, profile.joins.as_slice())?;
+    Ok(())
 }
 
 // Adds the outputs of the kinds at sites of a tile.

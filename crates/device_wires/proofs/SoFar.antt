@@ -1,0 +1,48 @@
+-- The wires that loops have put in order so far.
+use Rattle.std.proofs.Common.{◌≡◌, ◌+◌, ◌<◌, ℕ, List, [], ◌∷◌, ◌++◌, map, length, take, drop, get_or, filter_map, Option, sym, ap, subst, ◌∙◌}
+use Rattle.std.specs.Prelude.{flat_map, option_to_list}
+use Rattle.std.proofs.lemmas.List.{map_more, map-append, take_more, take-append-drop, append-nil}
+use Rattle.std.proofs.lemmas.List.Concat.{flat_map-append}
+use Rattle.std.proofs.lemmas.List.Elements.{filter_map-append}
+use Rattle.fabric.specs.Wires.{Wire}
+use Rattle.wire_names.specs.Kept.{most_wires}
+use Rattle.device_wires.specs.Gathered.{gathered}
+use Rattle.device_wires.proofs.InOrder.{gathered-append, still_many}
+use Rattle.device_wires.proofs.Lists.{one_mapped}
+
+module _ {B : Type 0} (now : B → List ℕ) (wire : List ℕ → Option Wire) (wires : List Wire) (names : List B) where
+  -- the wires of the first names
+  abbrev pub first_names : ℕ → List Wire
+  first_names i = gathered wires (filter_map wire (map now (take i names)))
+
+  -- one name more
+  pub name_more : (i : ℕ) (d : B) → i < length names → gathered (first_names i) (option_to_list (wire (now (get_or names i d)))) ≡ first_names (i + 1)
+  name_more i d h =
+      let all = ap (filter_map wire) (map_more now names i d h) ∙ filter_map-append wire (map now (take i names)) (now (get_or names i d) ∷ []) in
+      ap (gathered (first_names i)) (sym (one_mapped wire (now (get_or names i d))))
+      ∙ sym (gathered-append wires (filter_map wire (map now (take i names))) (filter_map wire (now (get_or names i d) ∷ [])))
+      ∙ ap (gathered wires) (sym all)
+
+  -- what is too much so far is too much in the end
+  pub many_names : (i : ℕ) → most_wires < length (first_names i) → most_wires < length (gathered wires (filter_map wire (map now names)))
+  many_names i many =
+      let parts = sym (filter_map-append wire (map now (take i names)) (map now (drop i names))) ∙ ap (filter_map wire) (sym (map-append now (take i names) (drop i names)) ∙ ap (map now) (take-append-drop i names)) in
+      subst (λ named. most_wires < length (gathered wires named)) parts (still_many wires (filter_map wire (map now (take i names))) (filter_map wire (map now (drop i names))) many)
+
+module _ {T : Type 0} (named : T → List Wire) (tiles : List T) where
+  -- the wires of the first tiles
+  abbrev pub first_tiles : ℕ → List Wire
+  first_tiles i = gathered [] (flat_map named (take i tiles))
+
+  -- one tile more
+  pub tile_more : (i : ℕ) (d : T) → i < length tiles → gathered (first_tiles i) (named (get_or tiles i d)) ≡ first_tiles (i + 1)
+  tile_more i d h =
+      let all = ap (flat_map named) (take_more tiles i d h) ∙ flat_map-append named (take i tiles) (get_or tiles i d ∷ []) in
+      ap (gathered (first_tiles i)) (sym (append-nil (named (get_or tiles i d))))
+      ∙ sym (gathered-append [] (flat_map named (take i tiles)) (named (get_or tiles i d) ++ []))
+      ∙ ap (gathered []) (sym all)
+
+  pub many_tiles : (i : ℕ) → most_wires < length (first_tiles i) → most_wires < length (gathered [] (flat_map named tiles))
+  many_tiles i many =
+      let parts = sym (flat_map-append named (take i tiles) (drop i tiles)) ∙ ap (flat_map named) (take-append-drop i tiles) in
+      subst (λ all. most_wires < length (gathered [] all)) parts (still_many [] (flat_map named (take i tiles)) (flat_map named (drop i tiles)) many)
