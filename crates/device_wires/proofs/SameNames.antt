@@ -1,6 +1,10 @@
 -- The names that count in a tile stand for the wires of the tile.
-use Rattle.std.proofs.Common.{◌≡◌, ℕ, List, [], ◌∷◌, ◌++◌, map, filter, filter_map, Bool, true, false, ◌||◌, bytes_eq, Option, Some, None, option_and_then, option_map, refl, sym, ap, ◌∙◌, append_assoc}
-use Rattle.std.specs.Prelude.{flat_map, if◌then◌else◌}
+use Rattle.std.proofs.Common.{◌≡◌, ℕ, List, [], ◌∷◌, ◌++◌, map, filter, filter_map, Bool, true, false, ◌||◌, bytes_eq, Option, Some, None, option_and_then, option_map, cond, nat_cmp, refl, sym, ap, subst, ◌∙◌, append_assoc}
+use Rattle.std.specs.Prelude.{flat_map, if◌then◌else◌, IfSome}
+use Rattle.std.specs.BTreeMap.{BTreeMap, get, is_at}
+use Rattle.std.specs.Cmp.Lexicographic.{slice_cmp}
+use Rattle.std.proofs.lemmas.Slice.Eq.{bytes_eq-Decides}
+use Rattle.cell_profile.proofs.KindNames.{text_ties}
 use Rattle.std.specs.List.{cons_option}
 use Rattle.std.specs.Option.{option_map_or}
 use Rattle.std.proofs.lemmas.List.Elements.{filter_map-append}
@@ -15,7 +19,7 @@ use Rattle.wire_names.specs.Kept.{number_of_name}
 use Rattle.fabric.specs.WireOfName.{wire_of_name, wire_at, relative_of, without_chip, Relative}
 use Rattle.fabric.specs.Device.{TypeDb, Device, database_of, fixed_at, output_names, input_names}
 use Rattle.fabric.specs.TileWires.{named_wire, wire_in, mux_wires, fixed_wires, tile_wires}
-use Rattle.device_wires.specs.TileNames.{is_ignored, mux_names, fixed_names, database_names, joined, routing_names, tile_names}
+use Rattle.device_wires.specs.TileNames.{is_ignored, mux_names, fixed_names, database_names, joined, routing_names, tile_names, KnowsTypes}
 use Rattle.device_wires.specs.Types.{type_named}
 use Rattle.device_wires.proofs.Lists.{filter_map-map, filter_map-flat_map, flat_map-map, flat_same}
 
@@ -120,3 +124,27 @@ routing_same device tile =
         ++ flat_map (fixed_names rules) (option_map_or (λ t. t.db) t (record { muxes = []; words = []; enums = []; fixed = [] })).fixed
     in_database rules None = refl
     in_database rules (Some t) = refl
+
+-- what is kept of the type of a tile is known of all tiles of the type
+pub knows_more : (device : Device) (tile : Tile) (names : List (List ℕ)) (old new : BTreeMap (List ℕ) (List (List ℕ))) → KnowsTypes device old → names ≡ tile_names device tile
+    → ((q : List ℕ) → get (slice_cmp nat_cmp) new q ≡ cond (is_at (slice_cmp nat_cmp tile.kind) q) (Some names) (get (slice_cmp nat_cmp) old q))
+    → KnowsTypes device new
+knows_more device tile names old new known are updated other =
+    subst (λ o. IfSome o (λ found. found ≡ tile_names device other)) (sym (updated other.kind ∙ ap (λ b. cond b (Some names) (get (slice_cmp nat_cmp) old other.kind)) (text_ties tile.kind other.kind)))
+    (go (bytes_eq other.kind tile.kind) refl (known other))
+  where
+    go : (b : Bool) → bytes_eq other.kind tile.kind ≡ b → IfSome (get (slice_cmp nat_cmp) old other.kind) (λ found. found ≡ tile_names device other)
+        → IfSome (cond b (Some names) (get (slice_cmp nat_cmp) old other.kind)) (λ found. found ≡ tile_names device other)
+    go true e k = are ∙ ap (λ kind. tile_names device (record tile { kind = kind })) (sym ((bytes_eq-Decides other.kind tile.kind).0 e))
+    go false e k = k
+
+-- what is found of the type of a tile are the names that count in it
+pub known_names : (device : Device) (tile : Tile) (types : BTreeMap (List ℕ) (List (List ℕ))) (kind : List ℕ) (names : List (List ℕ)) → KnowsTypes device types → kind ≡ tile.kind
+    → Some names ≡ get (slice_cmp nat_cmp) types kind → names ≡ tile_names device tile
+known_names device tile types kind names known same found =
+    subst (λ o. IfSome o (λ names. names ≡ tile_names device tile)) (sym (found ∙ ap (get (slice_cmp nat_cmp) types) same)) (known tile)
+
+-- and their wires are those of the tile
+pub their_wires : (device : Device) (tile : Tile) (rules : Rules) (names : List (List ℕ)) → rules ≡ device.profile.rules → names ≡ tile_names device tile
+    → filter_map (wire_in rules tile) names ≡ tile_wires device tile
+their_wires device tile rules names same are = (λ i. filter_map (wire_in (same i) tile) (are i)) ∙ sym (tile_wires_named device tile)

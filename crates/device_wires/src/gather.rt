@@ -1,6 +1,7 @@
 //! The wires that the tiles of a device name.
 
-ghost use Rattle.std.specs.Prelude.{◌≡◌, ◌<◌, [], filter_map, flat_map, length, map, IfOk, IsErrOf, OnOk, Some};
+ghost use Rattle.std.specs.Prelude.{◌≡◌, ◌<◌, [], filter_map, flat_map, length, map, IfErr, IfOk, IsErrOf, OnOk};
+ghost use Rattle.fabric.specs.Device.{Device as Record};
 ghost use Rattle.fabric.specs.TileWires.{named_wire, tile_wires, wire_in};
 ghost use Rattle.fabric.specs.WireOfName.{wire_of_name};
 ghost use Rattle.wire_names.specs.Kept.{most_wires};
@@ -22,7 +23,7 @@ use wire_names::place;
 type TypeNames<'a> = BTreeMap<Name, LentNames<'a>>;
 
 // Puts in the wires that names stand for at a place.
-fn add_names<'a>(
+fn add_at_place<'a>(
     wires: &mut Gathered<'a>,
     rules: &Rules,
     row: u8,
@@ -40,7 +41,39 @@ fn add_names<'a>(
     Ok(())
 }
 
-// Puts in the wires that a tile names. What names its type has is looked up, or kept from then on.
+// Puts in the wires that names stand for in a tile, which are none where it has no place.
+fn add_names<'a>(
+    wires: &mut Gathered<'a>,
+    rules: &Rules,
+    tile: &Tile,
+    names: &LentNames<'a>,
+) -> Result<(), WiresError>
+    ensures ok { OnOk result (wires.new ≡ gathered wires.old (filter_map (wire_in rules.now tile.now) names.now)) }
+    ensures many { IsErrOf result WiresError.TooMany
+        → most_wires < length (gathered wires.old (filter_map (wire_in rules.now tile.now) names.now)) }
+{
+    let Some((row, col)) = tile.place else {
+        return Ok(());
+    };
+    add_at_place(wires, rules, row, col, names.as_slice())?;
+    Ok(())
+}
+
+// Keeps the names that count in a tile for the tiles of its type.
+fn keep_names<'a>(
+    types: &mut TypeNames<'a>,
+    tile: &Tile,
+    names: LentNames<'a>,
+) -> Result<(), WiresError>
+    ensures known { (device : Record) → KnowsTypes device types.old → names.entry ≡ tile_names_of device tile.now
+        → OnOk result (KnowsTypes device types.new) }
+    ensures memory { IfErr result (λ e. e ≡ WiresError.Memory) }
+{
+    types.insert(tile.kind.copy()?, names)?;
+    Ok(())
+}
+
+// Puts in the wires that a tile names. The names of its type are looked up, or kept from then on.
 fn add_tile<'a>(
     alloc: Global,
     wires: &mut Gathered<'a>,
@@ -53,16 +86,14 @@ fn add_tile<'a>(
     ensures ok { OnOk result (wires.new ≡ gathered wires.old (tile_wires device.now tile.now)) }
     ensures many { IsErrOf result WiresError.TooMany → most_wires < length (gathered wires.old (tile_wires device.now tile.now)) }
 {
-    let Some((row, col)) = tile.place else {
-        return Ok(());
-    };
     let profile = device.profile;
     if let Some(names) = types.get(&tile.kind) {
-        return add_names(wires, &profile.rules, row, col, names.as_slice());
+        add_names(wires, &profile.rules, tile, names)?;
+        return Ok(());
     }
     let names = tile_names(alloc, device, tile)?;
-    add_names(wires, &profile.rules, row, col, names.as_slice())?;
-    types.insert(tile.kind.copy()?, names)?;
+    add_names(wires, &profile.rules, tile, &names)?;
+    keep_names(types, tile, names)?;
     Ok(())
 }
 

@@ -1,36 +1,30 @@
-use Rattle.std.proofs.Common.{◌≡◌, ◌<◌, ◌+◌, ℕ, List, length, get_or, Option, ap, ◌∙◌, sym, subst, Bor}
-use Rattle.std.specs.Prelude.{option_to_list}
+use Rattle.std.proofs.Common.{◌≡◌, ◌<◌, ℕ, List, length, filter_map, Option, Some, None, ap, ◌∙◌, sym, subst}
 use Rattle.std.proofs.lemmas.Result.{err_from_is_err_and}
+use Rattle.records.specs.Grid.{Tile}
 use Rattle.fabric.specs.Wires.{Wire}
-use Rattle.fabric.specs.TileWires.{named_wire}
+use Rattle.fabric.specs.TileWires.{named_wire, wire_in}
 use Rattle.fabric.specs.WireOfName.{wire_of_name}
 use Rattle.wire_names.specs.Kept.{most_wires}
-use Rattle.wire_names.specs.LentNames.{wire_name}
 use Rattle.device_wires.specs.Gathered.{gathered}
-use Rattle.device_wires.proofs.SoFar.{many_names, name_more}
+use Rattle.device_wires.proofs.SameNames.{no_wires, wires_at_place}
 use Rattle.device_wires.proofs.gather.add_names.Goals as goal
 
-pub returns-in_err-add-clause-many : goal.returns-in_err-add-clause-many
-returns-in_err-add-clause-many c =
-    let wire : List ℕ → Option Wire = λ name. named_wire (wire_of_name (c.args.row, c.args.col) name c.args.rules.now) in
-    let now : Bor (List ℕ) → List ℕ = λ name. name.now in
-    let names = c.args.names.now in
-    let i = c.loop-name.name-index in
-    let this : named_wire (wire_name c.place.result) ≡ wire (now (get_or names i c.name-item.result)) =
-    ap named_wire c.place.ensures.computed ∙ ap wire (c.bytes.ensures.same ∙ ap now c.name-item.is) in
-    let so_far : gathered c.loop-name.wires (option_to_list (named_wire (wire_name c.place.result))) ≡ _ =
-    (λ j. gathered (c.loop-name.invariant j) (option_to_list (this j))) ∙ name_more now wire c.args.wires.now names i c.name-item.result c.loop-name-test.true in
-    let p = err_from_is_err_and c.from_residual.result c.from_residual.ensures.1 in
-    rw (p.1, p.2) (λ is. many_names now wire c.args.wires.now names (i + 1) (subst (λ wires. most_wires < length wires) so_far (c.in_err-add.ensures.many is)))
+pub returns-in_default-clause-ok : goal.returns-in_default-clause-ok
+returns-in_default-clause-ok c =
+    let place : c.args.tile.now.place ≡ None = ap (λ (t : Tile). t.place) (sym c.tile.view_is) ∙ c.in_default.is in
+    ap (gathered c.args.wires.now) (sym (no_wires c.args.rules.now c.args.tile.now c.args.names.now place))
 
-pub loop-name-preserved : goal.loop-name-preserved
-loop-name-preserved c =
-    let wire : List ℕ → Option Wire = λ name. named_wire (wire_of_name (c.args.row, c.args.col) name c.args.rules.now) in
-    let now : Bor (List ℕ) → List ℕ = λ name. name.now in
-    let names = c.args.names.now in
-    let i = c.loop-name.name-index in
-    let this : named_wire (wire_name c.place.result) ≡ wire (now (get_or names i c.name-item.result)) =
-    ap named_wire c.place.ensures.computed ∙ ap wire (c.bytes.ensures.same ∙ ap now c.name-item.is) in
-    c.in_ok-add.ensures.ok
-    ∙ (λ j. gathered (c.loop-name.invariant j) (option_to_list (this j)))
-    ∙ name_more now wire c.args.wires.now names i c.name-item.result c.loop-name-test.true
+pub returns-in_err-add_at_place-clause-many : goal.returns-in_err-add_at_place-clause-many
+returns-in_err-add_at_place-clause-many c =
+    let wire : List ℕ → Option Wire = λ name. named_wire (wire_of_name (c.in-Some.row, c.in-Some.col) name c.args.rules.now) in
+    let place : c.args.tile.now.place ≡ Some (c.in-Some.row, c.in-Some.col) = ap (λ (t : Tile). t.place) (sym c.tile.view_is) ∙ c.in-Some.is in
+    let same = ap (filter_map wire) c.as_slice.ensures ∙ wires_at_place c.args.rules.now c.args.tile.now (c.in-Some.row, c.in-Some.col) c.args.names.now place in
+    let p = err_from_is_err_and c.from_residual.result c.from_residual.ensures.1 in
+    rw (p.1, p.2) (λ is. subst (λ named. most_wires < length (gathered c.args.wires.now named)) same (c.in_err-add_at_place.ensures.many is))
+
+pub returns-clause-ok : goal.returns-clause-ok
+returns-clause-ok c =
+    let wire : List ℕ → Option Wire = λ name. named_wire (wire_of_name (c.in-Some.row, c.in-Some.col) name c.args.rules.now) in
+    let place : c.args.tile.now.place ≡ Some (c.in-Some.row, c.in-Some.col) = ap (λ (t : Tile). t.place) (sym c.tile.view_is) ∙ c.in-Some.is in
+    let same = ap (filter_map wire) c.as_slice.ensures ∙ wires_at_place c.args.rules.now c.args.tile.now (c.in-Some.row, c.in-Some.col) c.args.names.now place in
+    c.in_ok-add_at_place.ensures.ok ∙ ap (gathered c.args.wires.now) same
