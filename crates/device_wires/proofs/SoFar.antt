@@ -1,6 +1,6 @@
 -- The wires that loops have put in order so far.
 use Rattle.std.proofs.Common.{◌≡◌, ◌+◌, ◌<◌, ℕ, List, [], ◌∷◌, ◌++◌, map, length, take, drop, get_or, filter_map, Option, sym, ap, subst, ◌∙◌}
-use Rattle.std.specs.Prelude.{flat_map, option_to_list}
+use Rattle.std.specs.Prelude.{flat_map, option_to_list, Err, IsErrOf}
 use Rattle.std.proofs.lemmas.List.{map_more, map-append, take_more, take-append-drop, append-nil}
 use Rattle.std.proofs.lemmas.List.Concat.{flat_map-append}
 use Rattle.std.proofs.lemmas.List.Elements.{filter_map-append}
@@ -46,3 +46,7 @@ module _ {T : Type 0} (named : T → List Wire) (tiles : List T) where
   many_tiles i many =
       let parts = sym (flat_map-append named (take i tiles) (drop i tiles)) ∙ ap (flat_map named) (take-append-drop i tiles) in
       subst (λ all. most_wires < length (gathered [] all)) parts (still_many [] (flat_map named (take i tiles)) (flat_map named (drop i tiles)) many)
+
+-- an error is the same whatever value there might have been
+pub same_error : {T U E : Type 0} (e f : E) → IsErrOf {T = T} (Err e) f → IsErrOf {T = U} (Err e) f
+same_error e f is = let same : e ≡ f = cc in ap (λ x. Err x) same
