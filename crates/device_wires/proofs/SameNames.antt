@@ -16,7 +16,7 @@ use Rattle.fabric.specs.Wires.{Wire}
 use Rattle.fabric.specs.WireNames.{WireName, Named, Ignored}
 use Rattle.fabric.specs.GraphOf.{number_of, number_in}
 use Rattle.wire_names.specs.Kept.{number_of_name}
-use Rattle.fabric.specs.WireOfName.{wire_of_name, wire_at, relative_of, without_chip, Relative}
+use Rattle.fabric.specs.WireOfName.{wire_of_name, wire_at, relative_of, without_chip}
 use Rattle.fabric.specs.Device.{TypeDb, Device, database_of, fixed_at, output_names, input_names}
 use Rattle.fabric.specs.TileWires.{named_wire, wire_in, mux_wires, fixed_wires, tile_wires}
 use Rattle.device_wires.specs.TileNames.{is_ignored, mux_names, fixed_names, database_names, joined, routing_names, tile_names, KnowsTypes}
@@ -78,9 +78,9 @@ tile_wires_named device tile =
     let muxes = (database_of device.types tile).muxes in
     let fixed = fixed_at device tile in
     let muxes_same : flat_map (mux_wires rules tile) muxes ≡ filter_map wire (flat_map (mux_names rules) muxes) =
-      flat_same (mux_wires rules tile) (λ mux. filter_map wire (mux_names rules mux)) (mux_here rules tile.place) muxes ∙ sym (filter_map-flat_map wire (mux_names rules) muxes) in
+    flat_same (mux_wires rules tile) (λ mux. filter_map wire (mux_names rules mux)) (mux_here rules tile.place) muxes ∙ sym (filter_map-flat_map wire (mux_names rules) muxes) in
     let fixed_same : flat_map (fixed_wires rules tile) fixed ≡ filter_map wire (flat_map (fixed_names rules) fixed) =
-      flat_same (fixed_wires rules tile) (λ f. filter_map wire (fixed_names rules f)) (fixed_here rules tile.place) fixed ∙ sym (filter_map-flat_map wire (fixed_names rules) fixed) in
+    flat_same (fixed_wires rules tile) (λ f. filter_map wire (fixed_names rules f)) (fixed_here rules tile.place) fixed ∙ sym (filter_map-flat_map wire (fixed_names rules) fixed) in
     (λ i. muxes_same i ++ fixed_same i ++ filter_map wire (output_names device tile ++ input_names device tile))
     ∙ ap (λ ws. ws ++ filter_map wire (output_names device tile ++ input_names device tile)) (sym (filter_map-append wire (flat_map (mux_names rules) muxes) (flat_map (fixed_names rules) fixed)))
     ∙ sym (filter_map-append wire (routing_names device tile) (output_names device tile ++ input_names device tile))

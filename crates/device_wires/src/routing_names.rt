@@ -30,11 +30,7 @@ fn add_sources<'a>(names: &mut LentNames<'a>, arcs: &'a [Arc]) -> Result<(), All
 }
 
 // Adds the names of a mux.
-fn add_mux<'a>(
-    names: &mut LentNames<'a>,
-    rules: &Rules,
-    mux: &'a Mux,
-) -> Result<(), AllocError>
+fn add_mux<'a>(names: &mut LentNames<'a>, rules: &Rules, mux: &'a Mux) -> Result<(), AllocError>
     ensures { OnOk result (names.new ≡ names.old ++ mux_names rules.now mux.now) }
 {
     if is_ignored(rules, &mux.sink) {

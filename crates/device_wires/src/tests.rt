@@ -1,8 +1,8 @@
 use crate::{Databases, Device, Wires, wires_of};
-use bits_db::read as read_database;
-use rr_ids::{Id, Name, TileId, WireId};
+use rr_ids::{Id, Name, NameError, Rules, TileId, WireId};
 use std::alloc::Global;
 use std::test::Fail;
+use tile_grid::Tile;
 use wire_names::WireName;
 
 const GRID: &str = r#"{
@@ -37,7 +37,7 @@ const PROFILE: &str =
 "pads": [{"tile": "MIO", "name": "P0", "settings": ["P0.DIR"],
  "mode": ["P0.DIR", [["NONE", "off"], ["INPUT", "in"], ["OUTPUT", "out"]]], "in": "PI", "out": "PO"}]}"#;
 
-// The texts, of which a proof needs nothing.
+// The texts and tables, of which a proof needs nothing.
 fn grid_text() -> &'static [u8] {
     GRID.as_bytes()
 }
@@ -46,44 +46,94 @@ fn profile_text() -> &'static [u8] {
     PROFILE.as_bytes()
 }
 
-// The databases of both types; that of one is replaced.
-fn databases(alloc: Global) -> Result<Databases, Fail> {
-    let mut databases = Databases::new(alloc);
-    let rows = [
-        (b"MLC".as_slice(), MIO),
-        (b"MIO".as_slice(), MIO),
-        (b"MLC".as_slice(), MLC),
-    ];
-    for (kind, text) in rows {
-        databases.insert(
-            Name::new(alloc, kind)?,
-            read_database(alloc, text.as_bytes())?,
-        )?;
-    }
-    Ok(databases)
-}
-
-fn local(row: i32, col: i32, base: &'static [u8]) -> WireName<'static> {
-    WireName::Local { row, col, base }
-}
+// A number, a row and a column where the wire is a local one, and a base.
+type Row = (u32, Option<(i32, i32)>, &'static [u8]);
 
 // The wires of the device in wire order.
-fn wanted() -> [WireName<'static>; 13] {
-    [
-        local(0, 0, b"X"),
-        local(0, 1, b"PI"),
-        local(0, 1, b"PO"),
-        local(1, 1, b"A"),
-        local(1, 1, b"B"),
-        local(1, 1, b"CK"),
-        local(1, 1, b"F"),
-        local(1, 1, b"H0"),
-        local(1, 1, b"Q"),
-        local(1, 1, b"T"),
-        local(1, 1, b"V"),
-        WireName::Wide { base: b"G_CK" },
-        WireName::Wide { base: b"G_T" },
-    ]
+static WANTED: [Row; 13] = [
+    (0, Some((0, 0)), b"X"),
+    (1, Some((0, 1)), b"PI"),
+    (2, Some((0, 1)), b"PO"),
+    (3, Some((1, 1)), b"A"),
+    (4, Some((1, 1)), b"B"),
+    (5, Some((1, 1)), b"CK"),
+    (6, Some((1, 1)), b"F"),
+    (7, Some((1, 1)), b"H0"),
+    (8, Some((1, 1)), b"Q"),
+    (9, Some((1, 1)), b"T"),
+    (10, Some((1, 1)), b"V"),
+    (11, None, b"G_CK"),
+    (12, None, b"G_T"),
+];
+
+fn wanted() -> &'static [Row] {
+    &WANTED
+}
+
+// A name in the tile of type MLC, and the number of its wire.
+type Number = (&'static [u8], Option<u32>);
+
+static NUMBERS: [Number; 4] = [
+    (b"N1_PI", Some(1)),
+    (b"G_T", Some(12)),
+    (b"25K_Q", None),
+    (b"PI", None),
+];
+
+fn numbers() -> &'static [Number] {
+    &NUMBERS
+}
+
+fn wire_at(place: Option<(i32, i32)>, base: &'static [u8]) -> WireName<'static> {
+    match place {
+        Some((row, col)) => WireName::Local { row, col, base },
+        None => WireName::Wide { base },
+    }
+}
+
+// Whether each wire stands under its number, and is found there.
+fn stand_in_order(wires: &Wires) -> bool {
+    for &(number, place, base) in wanted() {
+        let wire = wire_at(place, base);
+        let id = WireId::from_u32(number);
+        if wires.find(&wire) != Some(id) || wires.name(id) != Some(wire) {
+            return false;
+        }
+    }
+    true
+}
+
+// Whether names in a tile have their numbers.
+fn have_numbers(
+    alloc: Global,
+    wires: &Wires,
+    rules: &Rules,
+    tile: &Tile,
+) -> Result<bool, NameError> {
+    for &(text, number) in numbers() {
+        let name = Name::new(alloc, text)?;
+        if wires.number_in(rules, tile, &name).map(Id::to_u32) != number {
+            return Ok(false);
+        }
+    }
+    Ok(true)
+}
+
+// Makes the database that a text is that of a type.
+fn add(databases: &mut Databases, alloc: Global, kind: &[u8], text: &str) -> Result<(), Fail> {
+    let kind = Name::new(alloc, kind)?;
+    let db = bits_db::read(alloc, text.as_bytes())?;
+    databases.insert(kind, db)?;
+    Ok(())
+}
+
+// The databases of both types, of which one is replaced.
+fn databases(alloc: Global) -> Result<Databases, Fail> {
+    let mut databases = Databases::new(alloc);
+    add(&mut databases, alloc, b"MLC", MIO)?;
+    add(&mut databases, alloc, b"MIO", MIO)?;
+    add(&mut databases, alloc, b"MLC", MLC)?;
+    Ok(databases)
 }
 
 #[test]
@@ -92,34 +142,15 @@ fn wires_come_in_order(rt: HostRuntime) -> Result<(), Fail> {
     let grid = tile_grid::read(alloc, grid_text())?;
     let databases = databases(alloc)?;
     let profile = cell_profile::read(alloc, profile_text())?;
-    let wires: Wires = wires_of(
-        alloc,
-        &Device {
-            grid: &grid,
-            databases: &databases,
-            profile: &profile,
-        },
-    )?;
+    let device = Device {
+        grid: &grid,
+        databases: &databases,
+        profile: &profile,
+    };
+    let wires = wires_of(alloc, &device)?;
     assert_eq!(rt; wires.len(), 13);
-    let mut number = 0;
-    for wire in wanted() {
-        let id = WireId::from_u32(number);
-        assert_eq!(rt; wires.find(&wire), Some(id));
-        assert_eq!(rt; wires.name(id), Some(wire));
-        number += 1;
-    }
-    assert_eq!(rt; wires.name(WireId::from_u32(13)), None);
-    assert_eq!(rt; wires.find(&local(0, 1, b"Y")), None);
+    assert!(rt; stand_in_order(&wires));
     let tile = grid.tiles.get(TileId::from_u32(1)).ok_or("a tile")?;
-    let rows = [
-        (b"N1_PI".as_slice(), Some(1)),
-        (b"G_T".as_slice(), Some(12)),
-        (b"25K_Q".as_slice(), None),
-        (b"PI".as_slice(), None),
-    ];
-    for (name, number) in rows {
-        let name = Name::new(alloc, name)?;
-        assert_eq!(rt; wires.number_in(&profile.rules, tile, &name), number.map(WireId::from_u32));
-    }
+    assert!(rt; have_numbers(alloc, &wires, &profile.rules, tile)?);
     Ok(())
 }

@@ -2,7 +2,7 @@ use Rattle.std.proofs.Common.{◌≡◌, ◌<◌, ℕ, List, length, filter_map,
 use Rattle.std.proofs.lemmas.Result.{err_from_is_err_and}
 use Rattle.records.specs.Grid.{Tile}
 use Rattle.fabric.specs.Wires.{Wire}
-use Rattle.fabric.specs.TileWires.{named_wire, wire_in}
+use Rattle.fabric.specs.TileWires.{named_wire}
 use Rattle.fabric.specs.WireOfName.{wire_of_name}
 use Rattle.wire_names.specs.Kept.{most_wires}
 use Rattle.device_wires.specs.Gathered.{gathered}

@@ -13,8 +13,8 @@ use Rattle.device_wires.proofs.gather.gather.Goals as goal
 pub loop-tile-preserved : goal.loop-tile-preserved
 loop-tile-preserved c = record {
   wires = c.in_ok-add_tile.ensures.ok
-    ∙ (λ j. gathered (c.loop-tile.invariant.wires j) (tile_wires c.args.device.now (c.tile-item.is j)))
-    ∙ tile_more (tile_wires c.args.device.now) c.as_slice-tiles.result.now c.loop-tile.tile-index c.tile-item.result c.loop-tile-test.true;
+      ∙ (λ j. gathered (c.loop-tile.invariant.wires j) (tile_wires c.args.device.now (c.tile-item.is j)))
+      ∙ tile_more (tile_wires c.args.device.now) c.as_slice-tiles.result.now c.loop-tile.tile-index c.tile-item.result c.loop-tile-test.true;
   known = c.in_ok-add_tile.ensures.known;
 }
 

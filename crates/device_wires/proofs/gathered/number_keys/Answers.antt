@@ -1,6 +1,5 @@
 use Rattle.std.proofs.Common.{◌≡◌, ◌++◌, ◌∷◌, [], ap, ◌∙◌, sym, subst, map, append_assoc}
 use Rattle.wire_names.specs.Kept.{CanBeKept, number_of_name, with_name}
-use Rattle.wire_names.specs.LentNames.{wire_name}
 use Rattle.device_wires.specs.Keys.{wire_of}
 use Rattle.device_wires.proofs.InOrder.{is_next}
 use Rattle.device_wires.proofs.gathered.number_keys.Goals as goal

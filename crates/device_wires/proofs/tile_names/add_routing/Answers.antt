@@ -1,8 +1,8 @@
-use Rattle.std.proofs.Common.{◌≡◌, ◌++◌, ap, ◌∙◌, sym, option_map, filter, bytes_eq, append_assoc}
+use Rattle.std.proofs.Common.{◌≡◌, ◌++◌, ap, ◌∙◌, option_map, filter, bytes_eq, append_assoc}
 use Rattle.std.specs.Prelude.{flat_map}
 use Rattle.records.specs.Grid.{Tile}
 use Rattle.records.specs.Profile.{Profile, Join}
-use Rattle.fabric.specs.Device.{Device, TypeDb}
+use Rattle.fabric.specs.Device.{Device}
 use Rattle.device_wires.specs.Types.{type_named}
 use Rattle.device_wires.specs.TileNames.{database_names, fixed_names, joined}
 use Rattle.device_wires.proofs.SameNames.{routing_same}

@@ -1,5 +1,5 @@
-use Rattle.std.proofs.Common.{◌≡◌, ◌<◌, ap, ◌∙◌, sym, subst, map, length, inl, inr, arith}
-use Rattle.wire_names.specs.Kept.{HasShortBase, most_wires}
+use Rattle.std.proofs.Common.{ap, ◌∙◌, sym, subst, map, inl, inr, arith}
+use Rattle.wire_names.specs.Kept.{HasShortBase}
 use Rattle.wire_names.specs.LentNames.{wire_name}
 use Rattle.fabric.specs.TileWires.{named_wire}
 use Rattle.device_wires.specs.Gathered.{AreGathered}
