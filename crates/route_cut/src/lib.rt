@@ -17,3 +17,6 @@ pub struct Cut {
     pub inside: List<WireId>,
     pub rim: List<WireId>,
 }
+
+#[cfg(test)]
+mod tests;
