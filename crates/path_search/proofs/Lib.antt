@@ -1,0 +1,5 @@
+pub mod Grown
+pub mod Searching
+pub mod Heaps
+pub mod First
+pub mod Blocked

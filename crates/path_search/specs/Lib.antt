@@ -1,0 +1,5 @@
+pub mod Labels
+pub mod Heap
+pub mod Firsts
+pub mod Rims
+pub mod Answers
