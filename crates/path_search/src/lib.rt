@@ -15,3 +15,6 @@ mod wires;
 
 pub use search::{PathAnswer, least_path};
 pub use space::SearchSpace;
+
+#[cfg(test)]
+mod tests;
