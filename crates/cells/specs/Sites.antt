@@ -11,7 +11,7 @@ use Rattle.fabric.specs.Graph.{Graph}
 use Rattle.fabric.specs.Image.{tile_named}
 use Rattle.cells.specs.NameOrder.{in_name_order}
 
--- a site: its tile, with the tile's place in the grid, and its kind
+-- a site: its tile, with the tile's number in the grid, and its kind
 pub record Site (K : Type 0) : Type 0 where
   pub number : ℕ
   pub tile : Tile
@@ -24,11 +24,11 @@ slice_kind profile name tile = find (λ k. bytes_eq k.tile tile.kind && bytes_eq
 abbrev pub pad_kind : Profile → List ℕ → Tile → Option PadKind
 pad_kind profile name tile = find (λ k. bytes_eq k.tile tile.kind && bytes_eq k.name name) profile.pads
 
--- the site of a kind in a tile with its place in the grid, where the tile has a row and a column
+-- the site of a kind in a tile with its number in the grid, where the tile has a row and a column
 abbrev pub site_in : {K : Type 0} → ℕ → Tile → K → Option (Site K)
 site_in number tile kind = option_map (λ place. record { number = number; tile = tile; kind = kind }) tile.place
 
--- the site of a kind in the tile at a place of the grid
+-- the site of a kind in the tile of a number
 abbrev pub site_at : {K : Type 0} → Graph → (Tile → Option K) → ℕ → Option (Site K)
 site_at g kind_in number = option_and_then (λ tile. option_and_then (site_in number tile) (kind_in tile)) (slice_get g.grid.tiles number)
 
@@ -48,7 +48,7 @@ settings_at g site = unwrap_or (slice_get g.settings site.number) (record { word
 abbrev pub is_named : Side → Site PadKind → Bool
 is_named side site = list_any (λ p. bytes_eq p.tile site.tile.name && bytes_eq p.kind site.kind.name) side.pads
 
--- the pad sites of the tile at a place of the grid, by the names of their kinds
+-- the pad sites of the tile of a number, by the names of their kinds
 abbrev pub tile_pad_sites : Profile → ℕ → Tile → List (Site PadKind)
 tile_pad_sites profile number tile =
     filter_map (site_in number tile) (in_name_order (λ k. k.name) (filter (λ k. bytes_eq k.tile tile.kind) profile.pads))

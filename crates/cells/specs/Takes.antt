@@ -10,7 +10,7 @@ use Rattle.fabric.specs.GraphOf.{number_in}
 use Rattle.fabric.specs.Values.{value_at}
 use Rattle.circuit.specs.Cells.{Input, InputWire, InputNotWire, InputZero, InputOne, Role, InputPad, OutputPad, ClockPad}
 
--- the value of a choice's setting in the tile at a place of the grid; none where it has no setting
+-- the value of a choice's setting in the tile of a number; none where it has no setting
 abbrev pub choice_value : Graph → Bits → ℕ → Choice → Option (List ℕ)
 choice_value g image tile choice = option_and_then (value_at g image tile) choice.setting
 

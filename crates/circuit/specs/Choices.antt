@@ -15,7 +15,7 @@ use Rattle.circuit.specs.Runs.{IsClocked}
 pub record TakesFree (c : Circuit) (f : Fault) (choice w : World) : Type 0 where
   pub disturbed : (a : ℕ) → In f.disturbed a → w.wire a ≡ choice.wire a
   pub touched : (s : Source) → In (sources c.cells) s → In f.touched s.part.cell → w.wire s.out ≡ choice.wire s.out
-  -- a wire with no counting driver that is no output of a named cell
+  -- a wire with no counting driver that is no modelled output
   pub loose : (a : ℕ) → ((b : ℕ) → Counting c.routing b a → ⊥) → ((s : Source) → In (sources c.cells) s → s.out ≢ a) → w.wire a ≡ choice.wire a
   -- a pin that carries `clock`
   pub pins : (s : Source) (p : Pin) → In (sources c.cells) s → In (bit_pins s) p → w.wire p.wire ≡ Clock → w.pin p.ref ≡ choice.pin p.ref

@@ -14,7 +14,8 @@ use Rattle.circuit.specs.Worlds.{Clock, World, table_output, bit_of, CountsAs, c
 use Rattle.circuit.specs.Faults.{Fault}
 
 -- The values of one cycle: a relation between wires and parts, with no order of evaluation. What it doesn't
--- name may be anything, as a wire with no counting driver that is no output of a named cell.
+-- name may be anything, as a wire with no counting driver that is no modelled output: the output of an
+-- unnamed cell, or the `in` wire of a named output pad.
 pub record IsCycle (c : Circuit) (f : Fault) (input : Triple → Bool) (w : World) : Type 0 where
   -- a wire carries what its counting driver carries
   pub driven : (a b : ℕ) → (In f.disturbed a → ⊥) → Counting c.routing b a → w.wire a ≡ w.wire b

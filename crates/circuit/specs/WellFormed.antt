@@ -1,4 +1,5 @@
--- What the cells of an image and the side file that names them always meet. (Our own.)
+-- What the cells of an image and the side file that names them meet, where both files are read and no outputs overlap.
+-- (Our own.)
 use Rattle.std.specs.Prelude.{◌≡◌, ◌≢◌, ℕ, ◌≤◌, List, length}
 use Rattle.words.specs.Members.{In}
 use Rattle.records.specs.Side.{Domain, Triple}

@@ -8,7 +8,7 @@ use Rattle.links.specs.Links.{Link}
 use Rattle.fabric.specs.Wires.{Wire}
 use Rattle.fabric.specs.Settings.{Settings}
 
--- A mux of a tile: the tile by its place in the grid, the device bit of the tile's bit F0B0, the number of the
+-- A mux of a tile: the tile by its number in the grid, the device bit of the tile's bit F0B0, the number of the
 -- wire that the mux drives, and the mux as the database has it.
 pub record GraphMux : Type 0 where
   pub tile : ℕ

@@ -24,7 +24,7 @@ number_of wires wire = position (same_wire wire) wires
 abbrev pub number_in : List Wire → Rules → Tile → List ℕ → Option ℕ
 number_in wires rules tile name = option_and_then (number_of wires) (wire_in rules tile name)
 
--- the muxes of the tile at a place of the grid, in file order
+-- the muxes of the tile of a number, in file order
 abbrev pub tile_muxes : Device → List Wire → ℕ → Tile → List GraphMux
 tile_muxes device wires number tile =
     filter_map (λ mux. option_map (λ sink. record { tile = number; origin = origin_of tile; sink = sink; mux = mux }) (number_in wires device.profile.rules tile mux.sink))

@@ -24,7 +24,7 @@ after_writes image (w ∷ ws) = after_writes (written image w.origin w.pattern) 
 abbrev pub no_bits : Bits
 no_bits b = false
 
--- the place of a tile in the grid, by its name
+-- the number of a tile in the grid, by its name
 abbrev pub tile_named : Graph → List ℕ → Option ℕ
 tile_named g name = position (λ t. bytes_eq t.name name) g.grid.tiles
 
@@ -59,7 +59,7 @@ enum_writes origin settings line =
 abbrev pub unknown_writes : DeviceBit → UnknownLine → List Write
 unknown_writes origin line = record { origin = origin; pattern = record { frame = line.frame; bit = line.bit; set = true } ∷ [] } ∷ []
 
--- the writes of a section, at the place of its tile
+-- the writes of a section, in the tile of a number
 abbrev pub section_writes : Graph → TileText → ℕ → Tile → Settings → List Write
 section_writes g text number tile settings =
     flat_map (arc_writes g number) text.arcs
@@ -73,7 +73,7 @@ abbrev pub tile_writes : Graph → TileText → List Write
 tile_writes g text =
     option_map_or (λ number. option_map_or (λ tile. option_map_or (section_writes g text number tile) (slice_get g.settings number) []) (slice_get g.grid.tiles number) []) (tile_named g text.tile) []
 
--- the writes of a configuration, tile by tile
+-- the writes of a configuration, section by section as it lists them: in byte order of tiles, where it is in order
 abbrev pub writes_of : Graph → Config → List Write
 writes_of g config = flat_map (tile_writes g) config.tiles
 

@@ -1,4 +1,4 @@
-//! The grammars of the files that the program reads: what their bytes stand for, or their first fault.
+//! The grammar of a database, `bits.db`: what its bytes stand for, or their first fault.
 #![tactic(auto)]
 
 ghost use Rattle.std.specs.Prelude.{◌≡◌, ℕ, List};

@@ -1,4 +1,4 @@
-//! What the bytes of the JSON files stand for, grid, profile and side file, or their first fault.
+//! What the bytes of a grid and of a cell profile stand for, or their first fault.
 #![tactic(auto)]
 
 ghost use Rattle.std.specs.Prelude.{◌≡◌, Ok, Err, codes};
