@@ -1,6 +1,6 @@
-//! Reads a device as its files describe it, and prints how much there is: the tiles of its grid, the records of the
-//! database of each tile type, and the joins and kinds of a cell profile. Its words are the family's folder, the name of
-//! the device and the profile's file. What a reader refuses ends it with the reader's error.
+//! Reads devices as their files describe them, and prints how much there is: the joins and kinds of a cell profile, and
+//! of each device the tiles of its grid and the records of the database of each tile type. Its words are the family's
+//! folder, the profile's file and the names of devices. What a reader refuses ends it with the reader's error.
 #![tactic(auto)]
 
 use anyhow::{Context, Result};
@@ -66,12 +66,13 @@ fn grid_of<R: Files + AllocGlobal>(rt: &R, family: &str, device: &str) -> Result
     tile_grid::read(alloc, bytes.as_slice()).context(format_args!("in {path}"))
 }
 
-fn print_grid<R: Files + Print + AllocGlobal>(rt: &R, family: &str, device: &str) -> Result<()> {
+// A line for a device, and one for each of its tile types.
+fn print_device<R: Files + Print + AllocGlobal>(rt: &R, family: &str, device: &str) -> Result<()> {
     let grid = grid_of(rt, family, device)?;
     let tiles = grid.tiles.len();
     let height = grid.height;
     let width = grid.width;
-    println!(rt; "tiles {tiles} height {height} width {width}")?;
+    println!(rt; "{device} tiles {tiles} height {height} width {width}")?;
     let types = types_of(rt.alloc(), grid.tiles.as_slice())?;
     for kind in &types {
         print_type(rt, family, kind)?;
@@ -94,8 +95,10 @@ fn print_profile<R: Files + Print + AllocGlobal>(rt: &R, path: &str) -> Result<(
 fn main(rt: HostRuntime) -> Result<()> {
     let mut words = env::args(&rt)?.skip(1);
     let family = words.next().context("a family's folder is wanted")?;
-    let device = words.next().context("the name of a device is wanted")?;
     let profile = words.next().context("a profile's file is wanted")?;
-    print_grid(&rt, family.as_str(), device.as_str())?;
-    print_profile(&rt, profile.as_str())
+    print_profile(&rt, profile.as_str())?;
+    for device in words {
+        print_device(&rt, family.as_str(), device.as_str())?;
+    }
+    Ok(())
 }
