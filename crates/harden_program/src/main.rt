@@ -15,6 +15,7 @@ pub use top::harden_main;
 mod tests;
 
 use outside::{OsFiles, OsSink};
+use std::io::ErrorKind;
 use std::process::ExitCode;
 use std::{env, io};
 
@@ -28,9 +29,13 @@ fn words_of(rt: &HostRuntime) -> io::Result<Vec<String>> {
 }
 
 // Runs the top call over the real files and the standard output. Words that can't be had, since one isn't
-// UTF-8, are taken as none.
+// UTF-8, are taken as none; want of memory is none of the words' faults.
 fn run(rt: &HostRuntime) -> io::Result<Status> {
-    let words = words_of(rt).unwrap_or(Vec::new(rt.alloc()));
+    let words = match words_of(rt) {
+        Ok(words) => words,
+        Err(error) if error.kind() == ErrorKind::OutOfMemory => return Ok(Status::Memory),
+        Err(_) => Vec::new(rt.alloc()),
+    };
     let mut files = OsFiles::new(rt.clone()?);
     let mut out = OsSink::new(rt.clone()?);
     Ok(harden_main(rt.alloc(), &words, &mut files, &mut out))

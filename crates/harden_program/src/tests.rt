@@ -3,6 +3,7 @@
 use super::{Status, harden_main};
 use outside::{MemFiles, MemSink, SureFiles, SureSink};
 use std::alloc::{AllocError, Global};
+use std::process::Abort;
 use std::test::Fail;
 
 // The words of a line, separated by spaces.
@@ -36,147 +37,146 @@ const MUST_BE_0: &str = ".mux W\nS1 -\nS2 F0B0 !F0B1\n";
 const WHOLE: &str = ".mux W\nS1 F0B0\n.config K 01\nF1B0\n-\n.config_enum E ON\nON F2B0\nOFF -\n\
     .fixed_conn V W\n.mux T\nS2 !F1B0\n";
 
+// Two muxes that share the name of a source.
+const SHARED: &str = ".mux W\nS1 -\n.mux V\nS1 -\n";
+
 const TWO: &str = ".mux W\r\nS1 F0B0 # one\n\n.mux V\n";
 
-#[test]
-fn answers(rt: HostRuntime) -> Result<(), Fail> {
-    let alloc = rt.alloc();
-    let cases = [
-        // The longer match wins; on a tie all stand; a `!` bit must be 0; a bit that stands twice is one.
-        (LONGER, "drivers m.db F0B0 F0B1", "W S2\n", Status::Done),
-        (
-            LONGER,
-            "drivers m.db F0B1 F0B0 F0B1",
-            "W S2\n",
-            Status::Done,
-        ),
-        (LONGER, "drivers m.db F0B0", "W S1\n", Status::Done),
-        (TIE, "drivers m.db F0B0", "W S1 S2\n", Status::Done),
-        (TIE, "drivers m.db", "W -\n", Status::Done),
-        (MUST_BE_0, "drivers m.db", "W S1\n", Status::Done),
-        (MUST_BE_0, "drivers m.db F0B0", "W S2\n", Status::Done),
-        (MUST_BE_0, "drivers m.db F0B0 F0B1", "W S1\n", Status::Done),
-        (TWO, "drivers m.db F0B0", "W S1\nV -\n", Status::Done),
-        (WHOLE, "drivers m.db F0B0", "W S1\nT S2\n", Status::Done),
-        ("", "drivers m.db", "", Status::Done),
-        ("# .mux W\n \t\n", "drivers m.db", "", Status::Done),
-        // The words.
-        (LONGER, "", "usage 1\n", Status::Usage),
-        (LONGER, "check", "usage 1\n", Status::Usage),
-        (LONGER, "Drivers m.db", "usage 1\n", Status::Usage),
-        (LONGER, "drivers", "usage 2\n", Status::Usage),
-        (LONGER, "drivers m.db F0", "usage 3\n", Status::Usage),
-        (LONGER, "drivers m.db !F0B0", "usage 3\n", Status::Usage),
-        (
-            LONGER,
-            "drivers m.db F0B0 F0B1 F0B65536",
-            "usage 5\n",
-            Status::Usage,
-        ),
-        (LONGER, "drivers m.db F0B0 x y", "usage 4\n", Status::Usage),
-        // The file.
-        (
-            LONGER,
-            "drivers n.db",
-            "refused 1 Missing n.db\n",
-            Status::Refused,
-        ),
-        (
-            ".mux W\nS1 F3B",
-            "drivers m.db",
-            "refused 3 BadLine m.db 2\n",
-            Status::Refused,
-        ),
-        (
-            ".mux W\nS1 F65536B0\n",
-            "drivers m.db",
-            "refused 3 BadLine m.db 2\n",
-            Status::Refused,
-        ),
-        (
-            ".mux W\nS1\n",
-            "drivers m.db",
-            "refused 3 BadLine m.db 2\n",
-            Status::Refused,
-        ),
-        (
-            ".mux W\nS1 - F0B0\n",
-            "drivers m.db",
-            "refused 3 BadLine m.db 2\n",
-            Status::Refused,
-        ),
-        (
-            "S1 F0B0\n",
-            "drivers m.db",
-            "refused 3 BadLine m.db 1\n",
-            Status::Refused,
-        ),
-        (
-            ".mux\n",
-            "drivers m.db",
-            "refused 3 BadLine m.db 1\n",
-            Status::Refused,
-        ),
-        (
-            ".mux W V\n",
-            "drivers m.db",
-            "refused 3 BadLine m.db 1\n",
-            Status::Refused,
-        ),
-        (
-            ".mux W\n.mux V\n.mux W\n",
-            "drivers m.db",
-            "refused 3 BadLine m.db 3\n",
-            Status::Refused,
-        ),
-        (
-            ".mux W\nS1 -\nS1 F0B0\n",
-            "drivers m.db",
-            "refused 3 BadLine m.db 3\n",
-            Status::Refused,
-        ),
-        (
-            ".mux W\nS1 -\n.mux V\nS1 -\n",
-            "drivers m.db",
-            "W S1\nV S1\n",
-            Status::Done,
-        ),
-    ];
+// A database, the words of a run, what it prints and its status.
+type Case<'a> = (&'a str, &'a str, &'a str, Status);
+
+// The top call over one file `m.db` with these bytes.
+fn prints<R: Abort + AllocGlobal>(
+    rt: &R,
+    bytes: &[u8],
+    line: &str,
+    printed: &str,
+    status: Status,
+) -> Result<(), Fail> {
+    let mut files = SureFiles::new(one_file(rt.alloc(), bytes)?);
+    let mut out = SureSink::new(rt.alloc());
+    let words = words_of(rt.alloc(), line)?;
+    let answered = harden_main(rt.alloc(), &words, &mut files, &mut out);
+    assert_eq!(rt; answered, status, "at {line}");
+    assert_eq!(rt; out.written(), printed.as_bytes(), "at {line}");
+    Ok(())
+}
+
+fn all_print<R: Abort + AllocGlobal>(rt: &R, cases: &[Case<'_>]) -> Result<(), Fail> {
     for (text, line, printed, status) in cases {
-        let mut files = SureFiles::new(one_file(alloc, text.as_bytes())?);
-        let mut out = SureSink::new(alloc);
-        let words = words_of(alloc, line)?;
-        assert_eq!(rt;
-            harden_main(alloc, &words, &mut files, &mut out),
-            status,
-            "at {line}"
-        );
-        assert_eq!(rt; out.written(), printed.as_bytes(), "at {line}");
+        prints(rt, text.as_bytes(), line, printed, *status)?;
     }
     Ok(())
+}
+
+// The longer match wins; on a tie all stand; a `!` bit must be 0; a bit that stands twice is one.
+#[test]
+fn chosen_sources_are_printed(rt: HostRuntime) -> Result<(), Fail> {
+    all_print(
+        &rt,
+        &[
+            (LONGER, "drivers m.db F0B0 F0B1", "W S2\n", Status::Done),
+            (
+                LONGER,
+                "drivers m.db F0B1 F0B0 F0B1",
+                "W S2\n",
+                Status::Done,
+            ),
+            (LONGER, "drivers m.db F0B0", "W S1\n", Status::Done),
+            (TIE, "drivers m.db F0B0", "W S1 S2\n", Status::Done),
+            (TIE, "drivers m.db", "W -\n", Status::Done),
+            (MUST_BE_0, "drivers m.db", "W S1\n", Status::Done),
+            (MUST_BE_0, "drivers m.db F0B0", "W S2\n", Status::Done),
+            (MUST_BE_0, "drivers m.db F0B0 F0B1", "W S1\n", Status::Done),
+            (TWO, "drivers m.db F0B0", "W S1\nV -\n", Status::Done),
+            (WHOLE, "drivers m.db F0B0", "W S1\nT S2\n", Status::Done),
+            (SHARED, "drivers m.db", "W S1\nV S1\n", Status::Done),
+            ("", "drivers m.db", "", Status::Done),
+            ("# .mux W\n \t\n", "drivers m.db", "", Status::Done),
+        ],
+    )
+}
+
+#[test]
+fn words_without_a_reading_are_numbered(rt: HostRuntime) -> Result<(), Fail> {
+    all_print(
+        &rt,
+        &[
+            (LONGER, "", "usage 1\n", Status::Usage),
+            (LONGER, "check", "usage 1\n", Status::Usage),
+            (LONGER, "Drivers m.db", "usage 1\n", Status::Usage),
+            (LONGER, "drivers", "usage 2\n", Status::Usage),
+            (LONGER, "drivers m.db F0", "usage 3\n", Status::Usage),
+            (LONGER, "drivers m.db !F0B0", "usage 3\n", Status::Usage),
+            (
+                LONGER,
+                "drivers m.db F0B0 F0B1 F0B65536",
+                "usage 5\n",
+                Status::Usage,
+            ),
+            (LONGER, "drivers m.db F0B0 x y", "usage 4\n", Status::Usage),
+        ],
+    )
+}
+
+// Texts, and the number of the first line that is bad.
+#[test]
+fn bad_lines_are_refused(rt: HostRuntime) -> Result<(), Fail> {
+    for (text, refused) in [
+        (".mux W\nS1 F3B", "refused 3 BadLine m.db 2\n"),
+        (".mux W\nS1 F65536B0\n", "refused 3 BadLine m.db 2\n"),
+        (".mux W\nS1\n", "refused 3 BadLine m.db 2\n"),
+        (".mux W\nS1 - F0B0\n", "refused 3 BadLine m.db 2\n"),
+        ("S1 F0B0\n", "refused 3 BadLine m.db 1\n"),
+        (".mux\n", "refused 3 BadLine m.db 1\n"),
+        (".mux W V\n", "refused 3 BadLine m.db 1\n"),
+        (".mux W\n.mux V\n.mux W\n", "refused 3 BadLine m.db 3\n"),
+        (".mux W\nS1 -\nS1 F0B0\n", "refused 3 BadLine m.db 3\n"),
+    ] {
+        prints(
+            &rt,
+            text.as_bytes(),
+            "drivers m.db",
+            refused,
+            Status::Refused,
+        )?;
+    }
+    Ok(())
+}
+
+#[test]
+fn missing_file_is_refused(rt: HostRuntime) -> Result<(), Fail> {
+    prints(
+        &rt,
+        LONGER.as_bytes(),
+        "drivers n.db",
+        "refused 1 Missing n.db\n",
+        Status::Refused,
+    )
+}
+
+// A byte so many times.
+fn repeated(alloc: Global, byte: u8, count: usize) -> Result<Vec<u8>, AllocError> {
+    vec![in alloc; byte; count]
 }
 
 // A mux with a sink of so many bytes, whose one arc has a source of so many bytes and a pattern of so many bits.
 fn one_arc(alloc: Global, sink: usize, source: usize, bits: usize) -> Result<Vec<u8>, AllocError> {
     let mut text = Vec::from_slice(alloc, b".mux ")?;
-    for _ in 0..sink {
-        text.push(b'W')?;
-    }
+    text.extend_from_slice(&repeated(alloc, b'W', sink)?)?;
     text.push(b'\n')?;
-    for _ in 0..source {
-        text.push(b'S')?;
-    }
+    text.extend_from_slice(&repeated(alloc, b'S', source)?)?;
     for _ in 0..bits {
         text.extend_from_slice(b" F0B0")?;
     }
     Ok(text)
 }
 
-// Each limit at its edge and one past it. On one line a bad line comes before a pattern that is too large.
+// Names of 255 bytes and patterns of 32 bits are the largest. A line that is bad comes before one with a pattern that is
+// too large, and on one line the bad line comes first.
 #[test]
-fn limits(rt: HostRuntime) -> Result<(), Fail> {
-    let alloc = rt.alloc();
-    let cases = [
+fn names_and_patterns_have_limits(rt: HostRuntime) -> Result<(), Fail> {
+    for (sink, source, bits, status, printed) in [
         (1, 2, 32, Status::Done, "W SS\n"),
         (
             1,
@@ -185,47 +185,29 @@ fn limits(rt: HostRuntime) -> Result<(), Fail> {
             Status::Refused,
             "refused 6 TooLarge m.db pattern\n",
         ),
-        (256, 2, 32, Status::Refused, "refused 3 BadLine m.db 1\n"),
+        (256, 2, 33, Status::Refused, "refused 3 BadLine m.db 1\n"),
         (1, 256, 32, Status::Refused, "refused 3 BadLine m.db 2\n"),
         (1, 256, 33, Status::Refused, "refused 3 BadLine m.db 2\n"),
-    ];
-    for (sink, source, bits, status, printed) in cases {
-        let text = one_arc(alloc, sink, source, bits)?;
-        let mut files = SureFiles::new(one_file(alloc, &text)?);
-        let mut out = SureSink::new(alloc);
-        let words = words_of(alloc, "drivers m.db F0B0")?;
-        assert_eq!(rt;
-            harden_main(alloc, &words, &mut files, &mut out),
-            status,
-            "at {sink} {source} {bits}"
-        );
-        assert_eq!(rt;
-            out.written(),
-            printed.as_bytes(),
-            "at {sink} {source} {bits}"
-        );
-    }
-    let edges = [
-        (16 * 1024 * 1024, Status::Done, ""),
-        (
-            16 * 1024 * 1024 + 1,
-            Status::Refused,
-            "refused 2 TooLong m.db\n",
-        ),
-    ];
-    for (size, status, printed) in edges {
-        let text = vec![in alloc; b' '; size]?;
-        let mut files = SureFiles::new(one_file(alloc, &text)?);
-        let mut out = SureSink::new(alloc);
-        let words = words_of(alloc, "drivers m.db")?;
-        assert_eq!(rt;
-            harden_main(alloc, &words, &mut files, &mut out),
-            status,
-            "at {size}"
-        );
-        assert_eq!(rt; out.written(), printed.as_bytes(), "at {size}");
+    ] {
+        let text = one_arc(rt.alloc(), sink, source, bits)?;
+        prints(&rt, &text, "drivers m.db F0B0", printed, status)?;
     }
     Ok(())
+}
+
+// A file of 16 MiB is read, and one of a byte more is too long.
+#[test]
+fn files_have_a_limit(rt: HostRuntime) -> Result<(), Fail> {
+    let mut text = repeated(rt.alloc(), b' ', 16 * 1024 * 1024)?;
+    prints(&rt, &text, "drivers m.db", "", Status::Done)?;
+    text.push(b' ')?;
+    prints(
+        &rt,
+        &text,
+        "drivers m.db",
+        "refused 2 TooLong m.db\n",
+        Status::Refused,
+    )
 }
 
 // A file of two reads and one that finds its end. Where read k fails, the fault is answered with the name.
@@ -233,9 +215,7 @@ fn limits(rt: HostRuntime) -> Result<(), Fail> {
 fn failing_read(rt: HostRuntime) -> Result<(), Fail> {
     let alloc = rt.alloc();
     let mut text = Vec::from_slice(alloc, LONGER.as_bytes())?;
-    for _ in 0..70_000 {
-        text.push(b'\n')?;
-    }
+    text.extend_from_slice(&repeated(alloc, b'\n', 70_000)?)?;
     for k in 1..6u64 {
         let mut files = MemFiles::new(one_file(alloc, &text)?, vec![in alloc; k]?, Vec::new(alloc));
         let mut out = SureSink::new(alloc);
