@@ -27,11 +27,11 @@ write_fault_text name = codes "write fault" ++ spaced (name ∷ []) ++ line_feed
 -- databases of the grid's tile types
 pub data IsDesignFile (files : Files) (inputs : Inputs) : List ℕ → Type 0 where
   the_config : IsDesignFile files inputs inputs.config
-  the_grid : {config : Config} → parsed inputs.config most_config_bytes (read_config inputs.config) (files inputs.config) ≡ Ok config
+  the_grid : (config : Config) → parsed inputs.config most_config_bytes (read_config inputs.config) (files inputs.config) ≡ Ok config
       → IsDesignFile files inputs (grid_name inputs.family config.device)
   the_profile : IsDesignFile files inputs inputs.profile
   the_side : IsDesignFile files inputs inputs.side
-  a_database : {grid : Grid} {name kind : List ℕ} → IsDesignFile files inputs name → parsed name most_json_bytes (read_grid name) (files name) ≡ Ok grid
+  a_database : (grid : Grid) (name kind : List ℕ) → IsDesignFile files inputs name → parsed name most_json_bytes (read_grid name) (files name) ≡ Ok grid
       → In (types_of grid) kind → IsDesignFile files inputs (database_name inputs.family kind)
 
 -- a file that the words have read

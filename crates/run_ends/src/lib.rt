@@ -3,12 +3,14 @@
 //! empty body.
 #![tactic(auto)]
 
-ghost use Rattle.std.specs.Prelude.{◌≡◌, ◌∷◌, [], codes, Ok, Err, None, Some};
+ghost use Rattle.std.specs.Prelude.{◌≡◌, ◌∷◌, [], ℕ, List, Result, codes, Ok, Err, Some};
+ghost use Rattle.answers.specs.Answers.{Status};
 ghost use Rattle.answers.specs.Words as one;
 ghost use Rattle.commands.specs.Commands as whole;
+ghost use Rattle.commands.specs.Commands.{Hardening, Inputs};
 ghost use Rattle.design_files.specs.Parsed.{Files};
-ghost use Rattle.run_ends.specs.Ends.{with_files, write_fault_text};
-ghost use Rattle.run_ends.specs.Words.{OfDesign, OfFile, reading_of};
+ghost use Rattle.run_ends.specs.Ends.{IsEnd, with_files, write_fault_text};
+ghost use Rattle.run_ends.specs.Words.{Command, OfDesign, OfFile, reading_of};
 
 /// Worked words of both sorts of commands, with the number of the first word that can't stand where there is no reading.
 pub fn worked_words()
@@ -26,4 +28,10 @@ pub fn worked_writing()
     ensures written { (files : Files) → with_files files (record { name = codes "a"; bytes = codes "1" } ∷ record { name = codes "b"; bytes = codes "2" } ∷ []) (codes "a") ≡ Some (codes "1") }
     ensures again { (files : Files) → with_files files (record { name = codes "a"; bytes = codes "1" } ∷ record { name = codes "a"; bytes = codes "2" } ∷ []) (codes "a") ≡ Some (codes "2") }
     ensures others { (files : Files) → with_files files (record { name = codes "a"; bytes = codes "1" } ∷ []) (codes "c") ≡ files (codes "c") }
+{}
+
+/// However a run of any other command than `harden` ends, the files stand as they stood.
+pub fn only_hardening_writes()
+    ensures { (files : Files) (reading : Result Command ℕ) (output : List ℕ) (status : Status) (now : Files) (new : List ℕ)
+        → ((inputs : Inputs) (h : Hardening) → reading ≡ Ok (OfDesign (whole.Harden inputs h)) → ⊥) → IsEnd files reading output status now new → now ≡ files }
 {}
