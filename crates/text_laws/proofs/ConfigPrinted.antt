@@ -1,4 +1,4 @@
--- The text of a configuration that is read says what the configuration does.
+-- The text of a configuration of the form that is read says what the configuration does.
 use Rattle.std.proofs.Common.{◌≡◌, ◌<◌, ℕ, Bool, true, false, not, cond, ◌==◌, inl, inr, List, [], ◌∷◌, ◌++◌, length, map, filter, flat_map, Option, Some, None, refl, sym, ap, ap₂, subst, ◌∙◌, arith, append_assoc, length-append}
 use Rattle.std.specs.Prelude.{codes}
 use Rattle.std.specs.List.{list_any}
@@ -13,10 +13,10 @@ use Rattle.links.proofs.Members.{in_either, of_map, of_flat_map}
 use Rattle.config_grammar.specs.ConfigLines.{ConfigLine, DeviceLine, HeadLine, TileLine, ArcOf, WordOf, EnumOf, UnknownOf, OutsideLine, without_blanks, says_words, begins_outside, is_return, says, is_skipped, words_in}
 use Rattle.config_grammar.specs.ConfigPrint.{line_of, arc_text, word_text, enum_text, unknown_text, lines_text, section_with, section_text, head_text, config_text}
 use Rattle.config_grammar.specs.ConfigText.{item_of, items_of}
-use Rattle.text_laws.specs.Printed.{lined, AreOneLine, printed_line, said_in, section_says, said_by, IsReadConfig}
+use Rattle.text_laws.specs.Printed.{lined, AreOneLine, printed_line, said_in, section_says, said_by}
+use Rattle.text_laws.specs.Formed.{CanStand, IsFormedSection, IsFormedText}
 use Rattle.text_laws.proofs.TextLines.{lines_back, word_texts, words_are}
-use Rattle.text_laws.proofs.Sayings.{says_text, IsSayable, says_printed, printed_bytes}
-use Rattle.text_laws.proofs.ConfigRead.{IsSayableTile, IsSayableConfig, read_sayable}
+use Rattle.text_laws.proofs.Sayings.{says_text, says_printed, printed_bytes}
 
 -- ---- a text of lines that say something, and empty ones
 
@@ -105,10 +105,10 @@ config_is c =
 
 -- ---- the lines of the text
 
-abbrev AllSayable : List (Option ConfigLine) → Type 0
-AllSayable os = (line : ConfigLine) → In os (Some line) → IsSayable line
+abbrev AllStand : List (Option ConfigLine) → Type 0
+AllStand os = (line : ConfigLine) → In os (Some line) → CanStand line
 
-one_line_each : (os : List (Option ConfigLine)) → AllSayable os → AreOneLine (map text_of os)
+one_line_each : (os : List (Option ConfigLine)) → AllStand os → AreOneLine (map text_of os)
 one_line_each os h text i = (let m = of_map text_of os text i in go m.0 m.1.0 m.1.1)
   where
     go : (o : Option ConfigLine) → In os o → text_of o ≡ text → (no_line_feed text ≡ true) × (list_any is_return text ≡ false)
@@ -137,12 +137,12 @@ not_passed_over text ((b ∷ bs) ∷ rest) line h = go (b == 35) refl
     go true e = absurd (let none : says_words text ((b ∷ bs) ∷ rest) ≡ None = subst (λ x. says_words text ((x ∷ bs) ∷ rest) ≡ None) (sym (eqb-true b 35 e)) (hash_says_nothing text bs rest) in let no : ⊥ = cc in no)
     go false e = e
 
-says_words_of : (r o : Bool) (x : Option ConfigLine) (s : ConfigLine) → cond r None (cond o (Some OutsideLine) x) ≡ Some s → IsSayable s → x ≡ Some s
+says_words_of : (r o : Bool) (x : Option ConfigLine) (s : ConfigLine) → cond r None (cond o (Some OutsideLine) x) ≡ Some s → CanStand s → x ≡ Some s
 says_words_of true o x s h k = absurd (let no : ⊥ = cc in no)
-says_words_of false true x s h k = absurd (let same : s ≡ OutsideLine = cc in subst IsSayable same k)
+says_words_of false true x s h k = absurd (let same : s ≡ OutsideLine = cc in subst CanStand same k)
 says_words_of false false x s h k = h
 
-printed_not_skipped : (line : ConfigLine) → IsSayable line → is_skipped (word_texts (printed_line line)) ≡ false
+printed_not_skipped : (line : ConfigLine) → CanStand line → is_skipped (word_texts (printed_line line)) ≡ false
 printed_not_skipped line h =
     let text = printed_line line in
     let words = word_texts text in
@@ -152,7 +152,7 @@ printed_not_skipped line h =
 abbrev is_item : Line → Bool
 is_item line = not (is_skipped (words_in line))
 
-items_say : (os : List (Option ConfigLine)) (ls : List Line) → map (λ l. l.text) ls ≡ map text_of os → AllSayable os → map (λ i. i.says) (map item_of (filter is_item ls)) ≡ map (λ s. Some s) (there os)
+items_say : (os : List (Option ConfigLine)) (ls : List Line) → map (λ l. l.text) ls ≡ map text_of os → AllStand os → map (λ i. i.says) (map item_of (filter is_item ls)) ≡ map (λ s. Some s) (there os)
 items_say [] [] e h = refl
 items_say [] (l ∷ ls) e h = absurd (let no : ⊥ = cc in no)
 items_say (o ∷ os) [] e h = absurd (let no : ⊥ = cc in no)
@@ -164,13 +164,13 @@ items_say (None ∷ os) (l ∷ ls) e h =
 items_say (Some line ∷ os) (l ∷ ls) e h =
     let first : l.text ≡ printed_line line = cc in
     let later : map (λ l. l.text) ls ≡ map text_of os = cc in
-    let sayable = h line (inl refl) in
-    let kept : is_item l ≡ true = ap (λ ws. not (is_skipped ws)) (words_are l ∙ ap word_texts first) ∙ ap not (printed_not_skipped line sayable) in
-    let said : says l.text (words_in l) ≡ Some line = ap (says l.text) (words_are l) ∙ ap says_text first ∙ says_printed line sayable in
+    let stands = h line (inl refl) in
+    let kept : is_item l ≡ true = ap (λ ws. not (is_skipped ws)) (words_are l ∙ ap word_texts first) ∙ ap not (printed_not_skipped line stands) in
+    let said : says l.text (words_in l) ≡ Some line = ap (says l.text) (words_are l) ∙ ap says_text first ∙ says_printed line stands in
     ap (λ b. map (λ i. i.says) (map item_of (cond b (l ∷ filter is_item ls) (filter is_item ls)))) kept
     ∙ ap₂ (λ (s : Option ConfigLine) ss. s ∷ ss) said (items_say os ls later (λ line i. h line (inr i)))
 
--- ---- the lines of a configuration can be printed, and they are what it says
+-- ---- the lines of a configuration can stand in a text, and they are what it says
 
 there_joined : (xs ys : List (Option ConfigLine)) → there (xs ++ ys) ≡ there xs ++ there ys
 there_joined [] ys = refl
@@ -196,18 +196,18 @@ there_config c =
     (there_joined (all_there heads) (flat_map tile_lines c.tiles) ∙ ap₂ (λ (a b : List ConfigLine). a ++ b) (there_all heads) (there_tiles c.tiles))
 
 -- what holds of the lines that things are printed as
-of_mapped : {X : Type 0} (line : X → ConfigLine) (xs : List X) → ((x : X) → In xs x → IsSayable (line x)) → (l : ConfigLine) → In (map line xs) l → IsSayable l
-of_mapped line xs h l i = let m = of_map line xs l i in subst IsSayable m.1.1 (h m.0 m.1.0)
+of_mapped : {X : Type 0} (line : X → ConfigLine) (xs : List X) → ((x : X) → In xs x → CanStand (line x)) → (l : ConfigLine) → In (map line xs) l → CanStand l
+of_mapped line xs h l i = let m = of_map line xs l i in subst CanStand m.1.1 (h m.0 m.1.0)
 
-of_either : (xs ys : List ConfigLine) → ((l : ConfigLine) → In xs l → IsSayable l) → ((l : ConfigLine) → In ys l → IsSayable l) → (l : ConfigLine) → In (xs ++ ys) l → IsSayable l
+of_either : (xs ys : List ConfigLine) → ((l : ConfigLine) → In xs l → CanStand l) → ((l : ConfigLine) → In ys l → CanStand l) → (l : ConfigLine) → In (xs ++ ys) l → CanStand l
 of_either xs ys h k l i = elim (in_either xs ys l i) [ inl j ↦ h l j | inr j ↦ k l j ]
 
 in_all_there : (lines : List ConfigLine) (l : ConfigLine) → In (all_there lines) (Some l) → In lines l
 in_all_there [] l i = i
 in_all_there (x ∷ xs) l i = elim i [ inl e ↦ inl (let same : x ≡ l = cc in same) | inr j ↦ inr (in_all_there xs l j) ]
 
-said_in_sayable : (t : TileText) → IsSayableTile t → (l : ConfigLine) → In (said_in t) l → IsSayable l
-said_in_sayable t h =
+said_in_stands : (t : TileText) → IsFormedSection t → (l : ConfigLine) → In (said_in t) l → CanStand l
+said_in_stands t h =
     let arcs = map (λ (a : ArcLine). ArcOf a.sink a.source) t.arcs in
     let words = map (λ (w : WordLine). WordOf w.name w.bits) t.words in
     let enums = map (λ (e : EnumLine). EnumOf e.name e.value) t.enums in
@@ -220,28 +220,28 @@ said_in_sayable t h =
 no_some : (l : ConfigLine) → None ≡ Some l → ⊥
 no_some l e = cc
 
-section_sayable : (name : List ℕ) (lines : List ConfigLine) → IsSayable (TileLine name) → ((l : ConfigLine) → In lines l → IsSayable l) → AllSayable (section_lines name lines)
-section_sayable name [] k h l i = absurd i
-section_sayable name (line ∷ lines) k h l i = elim i [
+section_stands : (name : List ℕ) (lines : List ConfigLine) → CanStand (TileLine name) → ((l : ConfigLine) → In lines l → CanStand l) → AllStand (section_lines name lines)
+section_stands name [] k h l i = absurd i
+section_stands name (line ∷ lines) k h l i = elim i [
   | inl e ↦ absurd (no_some l e)
-  | inr j ↦ elim j [ inl e ↦ (let same : TileLine name ≡ l = cc in subst IsSayable same k) | inr m ↦ h l (in_all_there (line ∷ lines) l m) ]
+  | inr j ↦ elim j [ inl e ↦ (let same : TileLine name ≡ l = cc in subst CanStand same k) | inr m ↦ h l (in_all_there (line ∷ lines) l m) ]
 ]
 
-config_sayable : (c : Config) → IsSayableConfig c → AllSayable (config_lines c)
-config_sayable c h l i = elim i [
-  | inl e ↦ (let same : DeviceLine c.device ≡ l = cc in subst IsSayable same h.device)
+config_stands : (c : Config) → IsFormedText c → AllStand (config_lines c)
+config_stands c h l i = elim i [
+  | inl e ↦ (let same : DeviceLine c.device ≡ l = cc in subst CanStand same h.device)
   | inr j ↦ elim (in_either (all_there (map (λ h. HeadLine h.text) c.heads)) (flat_map tile_lines c.tiles) (Some l) j) [
     | inl m ↦ of_mapped (λ (x : Head). HeadLine x.text) c.heads h.heads l (in_all_there (map (λ h. HeadLine h.text) c.heads) l m)
-    | inr m ↦ (let f = of_flat_map tile_lines c.tiles (Some l) m in section_sayable f.0.tile (said_in f.0) (h.tiles f.0 f.1.0).name (said_in_sayable f.0 (h.tiles f.0 f.1.0)) l f.1.1)
+    | inr m ↦ (let f = of_flat_map tile_lines c.tiles (Some l) m in section_stands f.0.tile (said_in f.0) (h.sections f.0 f.1.0).name (said_in_stands f.0 (h.sections f.0 f.1.0)) l f.1.1)
   ]
 ]
 
 -- ---- the whole text
 
-pub printed_says : (c : Config) → IsReadConfig c → map (λ item. item.says) (items_of (config_text c)) ≡ map (λ said. Some said) (said_by c)
-printed_says c read =
+pub printed_says : (c : Config) → IsFormedText c → map (λ item. item.says) (items_of (config_text c)) ≡ map (λ said. Some said) (said_by c)
+printed_says c formed =
     let os = config_lines c in
-    let sayable = config_sayable c (read_sayable c read) in
+    let stand = config_stands c formed in
     let lines : map (λ l. l.text) (lines_of (config_text c)) ≡ map text_of os =
-    ap (λ t. map (λ (l : Line). l.text) (lines_of t)) (config_is c ∙ texts_lined os) ∙ lines_back (map text_of os) (one_line_each os sayable) in
-    items_say os (lines_of (config_text c)) lines sayable ∙ ap (map (λ s. Some s)) (there_config c)
+    ap (λ t. map (λ (l : Line). l.text) (lines_of t)) (config_is c ∙ texts_lined os) ∙ lines_back (map text_of os) (one_line_each os stand) in
+    items_say os (lines_of (config_text c)) lines stand ∙ ap (map (λ s. Some s)) (there_config c)

@@ -1,5 +1,5 @@
--- What a configuration that is read says can be printed.
-use Rattle.std.proofs.Common.{◌≡◌, ◌+◌, ◌-◌, ℕ, length, min, true, not, ◌⊎◌, inl, inr, List, [], ◌∷◌, ◌++◌, map, filter, Option, Some, None, refl, sym, ap, subst, ◌∙◌}
+-- What a configuration that is read says can stand in a text.
+use Rattle.std.proofs.Common.{◌≡◌, ◌+◌, ◌-◌, ℕ, length, min, true, not, ◌⊎◌, inl, inr, List, [], ◌∷◌, ◌++◌, filter, Option, Some, None, refl, sym, ap, subst, ◌∙◌}
 use Rattle.std.specs.Prelude.{Result, Ok}
 use Rattle.std.specs.declared.cmp.Ordering.{Ordering}
 use Rattle.std.specs.declared.cmp.Ordering.TheVariants.{Less, Equal, Greater}
@@ -13,63 +13,46 @@ use Rattle.texts.specs.Parts.{no_line_feed, IsTextOf}
 use Rattle.texts.specs.Names.{is_name}
 use Rattle.texts.proofs.LineParts.{lines_make}
 use Rattle.links.proofs.Members.{of_map}
-use Rattle.fabric_laws.proofs.Members.{in_filter_from, in_filter_map_from}
+use Rattle.fabric_laws.proofs.Members.{in_filter_from}
 use Rattle.cells_laws.proofs.Options.{or_none}
 use Rattle.config_grammar.specs.ConfigLines.{ConfigLine, DeviceLine, HeadLine, TileLine, ArcOf, WordOf, EnumOf, UnknownOf, OutsideLine, says, is_skipped, words_in}
-use Rattle.config_grammar.specs.Sections.{Item, no_lines, Behind, behind_with, behind_of, sections_of, head_before, heads_of, device_in}
+use Rattle.config_grammar.specs.Sections.{Item, no_lines, Behind, behind_with, behind_of, head_before, heads_of, device_in}
 use Rattle.config_grammar.specs.Ordered.{put_in_order, put_once, in_order, in_order_once}
-use Rattle.config_grammar.specs.ConfigText.{ConfigFault, item_of, items_of, devices_of, says_fault, item_fault, arc_key, section_in_order, config_of, with_device, unless_fault}
-use Rattle.text_laws.specs.Printed.{IsReadConfig}
+use Rattle.config_grammar.specs.ConfigText.{ConfigFault, item_of, items_of, says_fault, item_fault, arc_key, section_in_order, unless_fault}
+use Rattle.text_laws.specs.Formed.{CanStand, LinesCanStand, IsFormedSection}
 use Rattle.text_laws.proofs.TextLines.{words_are}
-use Rattle.text_laws.proofs.Sayings.{IsSayable}
-use Rattle.text_laws.proofs.Said.{said_sayable}
+use Rattle.text_laws.proofs.Said.{said_stands}
 
 -- ---- sections and heads
 
--- each line of a section can be printed
-pub record LinesSayable (t : TileText) : Type 0 where
-  pub arcs : (a : ArcLine) → In t.arcs a → IsSayable (ArcOf a.sink a.source)
-  pub words : (w : WordLine) → In t.words w → IsSayable (WordOf w.name w.bits)
-  pub enums : (e : EnumLine) → In t.enums e → IsSayable (EnumOf e.name e.value)
-  pub unknowns : (u : UnknownLine) → In t.unknowns u → IsSayable (UnknownOf u.frame u.bit)
+pub record BehindStands (b : Behind) : Type 0 where
+  pub inside : LinesCanStand b.inside
+  pub sections : (t : TileText) → In b.sections t → IsFormedSection t
 
-pub record IsSayableTile (t : TileText) : Type 0 where
-  pub name : IsSayable (TileLine t.tile)
-  pub lines : LinesSayable t
+abbrev pub SaysWhatStands : Option ConfigLine → Type 0
+SaysWhatStands None = Unit {0}
+SaysWhatStands (Some line) = CanStand line
 
-pub record IsSayableConfig (c : Config) : Type 0 where
-  pub device : IsSayable (DeviceLine c.device)
-  pub heads : (h : Head) → In c.heads h → IsSayable (HeadLine h.text)
-  pub tiles : (t : TileText) → In c.tiles t → IsSayableTile t
-
-record BehindSayable (b : Behind) : Type 0 where
-  inside : LinesSayable b.inside
-  sections : (t : TileText) → In b.sections t → IsSayableTile t
-
-abbrev SaysSayable : Option ConfigLine → Type 0
-SaysSayable None = Unit {0}
-SaysSayable (Some line) = IsSayable line
-
-nothing_sayable : (n : ℕ) (name : List ℕ) → LinesSayable (no_lines n name)
-nothing_sayable n name = record { arcs = λ a i. absurd i; words = λ w i. absurd i; enums = λ e i. absurd i; unknowns = λ u i. absurd i }
+nothing_stands : (n : ℕ) (name : List ℕ) → LinesCanStand (no_lines n name)
+nothing_stands n name = record { arcs = λ a i. absurd i; words = λ w i. absurd i; enums = λ e i. absurd i; unknowns = λ u i. absurd i }
 
 -- x in front of others with a property
 with_front : {X : Type 0} (P : X → Type 0) (x : X) (xs : List X) → P x → ((y : X) → In xs y → P y) → (y : X) → In (x ∷ xs) y → P y
 with_front P x xs p h y i = elim i [ inl e ↦ subst P e p | inr j ↦ h y j ]
 
-behind_step : (n : ℕ) (o : Option ConfigLine) (b : Behind) → SaysSayable o → BehindSayable b → BehindSayable (behind_with n o b)
+behind_step : (n : ℕ) (o : Option ConfigLine) (b : Behind) → SaysWhatStands o → BehindStands b → BehindStands (behind_with n o b)
 behind_step n None b k h = h
 behind_step n (Some (DeviceLine name)) b k h = h
 behind_step n (Some (HeadLine text)) b k h = h
 behind_step n (Some (TileLine name)) b k h = record {
-  inside = nothing_sayable 0 [];
+  inside = nothing_stands 0 [];
   sections =
-      with_front IsSayableTile (record { tile = name; line = n; arcs = b.inside.arcs; words = b.inside.words; enums = b.inside.enums; unknowns = b.inside.unknowns }) b.sections
+      with_front IsFormedSection (record { tile = name; line = n; arcs = b.inside.arcs; words = b.inside.words; enums = b.inside.enums; unknowns = b.inside.unknowns }) b.sections
       (record { name = k; lines = record { arcs = h.inside.arcs; words = h.inside.words; enums = h.inside.enums; unknowns = h.inside.unknowns } }) h.sections;
 }
 behind_step n (Some (ArcOf sink source)) b k h = record {
   inside = record {
-    arcs = with_front (λ (a : ArcLine). IsSayable (ArcOf a.sink a.source)) (record { sink = sink; source = source; line = n }) b.inside.arcs k h.inside.arcs;
+    arcs = with_front (λ (a : ArcLine). CanStand (ArcOf a.sink a.source)) (record { sink = sink; source = source; line = n }) b.inside.arcs k h.inside.arcs;
     words = h.inside.words;
     enums = h.inside.enums;
     unknowns = h.inside.unknowns;
@@ -79,7 +62,7 @@ behind_step n (Some (ArcOf sink source)) b k h = record {
 behind_step n (Some (WordOf name bits)) b k h = record {
   inside = record {
     arcs = h.inside.arcs;
-    words = with_front (λ (w : WordLine). IsSayable (WordOf w.name w.bits)) (record { name = name; bits = bits; line = n }) b.inside.words k h.inside.words;
+    words = with_front (λ (w : WordLine). CanStand (WordOf w.name w.bits)) (record { name = name; bits = bits; line = n }) b.inside.words k h.inside.words;
     enums = h.inside.enums;
     unknowns = h.inside.unknowns;
   };
@@ -89,7 +72,7 @@ behind_step n (Some (EnumOf name value)) b k h = record {
   inside = record {
     arcs = h.inside.arcs;
     words = h.inside.words;
-    enums = with_front (λ (e : EnumLine). IsSayable (EnumOf e.name e.value)) (record { name = name; value = value; line = n }) b.inside.enums k h.inside.enums;
+    enums = with_front (λ (e : EnumLine). CanStand (EnumOf e.name e.value)) (record { name = name; value = value; line = n }) b.inside.enums k h.inside.enums;
     unknowns = h.inside.unknowns;
   };
   sections = h.sections;
@@ -99,24 +82,24 @@ behind_step n (Some (UnknownOf frame bit)) b k h = record {
     arcs = h.inside.arcs;
     words = h.inside.words;
     enums = h.inside.enums;
-    unknowns = with_front (λ (u : UnknownLine). IsSayable (UnknownOf u.frame u.bit)) (record { frame = frame; bit = bit; line = n }) b.inside.unknowns k h.inside.unknowns;
+    unknowns = with_front (λ (u : UnknownLine). CanStand (UnknownOf u.frame u.bit)) (record { frame = frame; bit = bit; line = n }) b.inside.unknowns k h.inside.unknowns;
   };
   sections = h.sections;
 }
 behind_step n (Some OutsideLine) b k h = absurd k
 
--- each of some items says what can be printed
-abbrev AllSayable : List Item → Type 0
-AllSayable items = (i : Item) → In items i → SaysSayable i.says
+-- each of some items says what can stand in a text
+abbrev pub AllStand : List Item → Type 0
+AllStand items = (i : Item) → In items i → SaysWhatStands i.says
 
-behind_sayable : (items : List Item) → AllSayable items → BehindSayable (behind_of items)
-behind_sayable [] h = record { inside = nothing_sayable 0 []; sections = λ t i. absurd i }
-behind_sayable (item ∷ items) h = behind_step item.number item.says (behind_of items) (h item (inl refl)) (behind_sayable items (λ i j. h i (inr j)))
+pub behind_stands : (items : List Item) → AllStand items → BehindStands (behind_of items)
+behind_stands [] h = record { inside = nothing_stands 0 []; sections = λ t i. absurd i }
+behind_stands (item ∷ items) h = behind_step item.number item.says (behind_of items) (h item (inl refl)) (behind_stands items (λ i j. h i (inr j)))
 
-head_step : (o : Option ConfigLine) (heads : List Head) → SaysSayable o → ((h : Head) → In heads h → IsSayable (HeadLine h.text)) → (h : Head) → In (head_before o heads) h → IsSayable (HeadLine h.text)
+head_step : (o : Option ConfigLine) (heads : List Head) → SaysWhatStands o → ((h : Head) → In heads h → CanStand (HeadLine h.text)) → (h : Head) → In (head_before o heads) h → CanStand (HeadLine h.text)
 head_step None heads k f = f
 head_step (Some (DeviceLine name)) heads k f = f
-head_step (Some (HeadLine text)) heads k f = with_front (λ (h : Head). IsSayable (HeadLine h.text)) (record { text = text }) heads k f
+head_step (Some (HeadLine text)) heads k f = with_front (λ (h : Head). CanStand (HeadLine h.text)) (record { text = text }) heads k f
 head_step (Some (TileLine name)) heads k f = f
 head_step (Some (ArcOf sink source)) heads k f = f
 head_step (Some (WordOf name bits)) heads k f = f
@@ -124,20 +107,20 @@ head_step (Some (EnumOf name value)) heads k f = f
 head_step (Some (UnknownOf frame bit)) heads k f = f
 head_step (Some OutsideLine) heads k f = f
 
-heads_sayable : (items : List Item) → AllSayable items → (h : Head) → In (heads_of items) h → IsSayable (HeadLine h.text)
-heads_sayable [] k h i = absurd i
-heads_sayable (item ∷ items) k h i = head_step item.says (heads_of items) (k item (inl refl)) (heads_sayable items (λ j l. k j (inr l))) h i
+pub heads_stand : (items : List Item) → AllStand items → (h : Head) → In (heads_of items) h → CanStand (HeadLine h.text)
+heads_stand [] k h i = absurd i
+heads_stand (item ∷ items) k h i = head_step item.says (heads_of items) (k item (inl refl)) (heads_stand items (λ j l. k j (inr l))) h i
 
-device_sayable : (o : Option ConfigLine) (d : List ℕ) → SaysSayable o → device_in o ≡ Some d → is_name d ≡ true
-device_sayable None d k h = absurd (let no : ⊥ = cc in no)
-device_sayable (Some (DeviceLine name)) d k h = let same : name ≡ d = cc in subst (λ n. is_name n ≡ true) same k
-device_sayable (Some (HeadLine text)) d k h = absurd (let no : ⊥ = cc in no)
-device_sayable (Some (TileLine name)) d k h = absurd (let no : ⊥ = cc in no)
-device_sayable (Some (ArcOf sink source)) d k h = absurd (let no : ⊥ = cc in no)
-device_sayable (Some (WordOf name bits)) d k h = absurd (let no : ⊥ = cc in no)
-device_sayable (Some (EnumOf name value)) d k h = absurd (let no : ⊥ = cc in no)
-device_sayable (Some (UnknownOf frame bit)) d k h = absurd (let no : ⊥ = cc in no)
-device_sayable (Some OutsideLine) d k h = absurd (let no : ⊥ = cc in no)
+pub device_stands : (o : Option ConfigLine) (d : List ℕ) → SaysWhatStands o → device_in o ≡ Some d → is_name d ≡ true
+device_stands None d k h = absurd (let no : ⊥ = cc in no)
+device_stands (Some (DeviceLine name)) d k h = let same : name ≡ d = cc in subst (λ n. is_name n ≡ true) same k
+device_stands (Some (HeadLine text)) d k h = absurd (let no : ⊥ = cc in no)
+device_stands (Some (TileLine name)) d k h = absurd (let no : ⊥ = cc in no)
+device_stands (Some (ArcOf sink source)) d k h = absurd (let no : ⊥ = cc in no)
+device_stands (Some (WordOf name bits)) d k h = absurd (let no : ⊥ = cc in no)
+device_stands (Some (EnumOf name value)) d k h = absurd (let no : ⊥ = cc in no)
+device_stands (Some (UnknownOf frame bit)) d k h = absurd (let no : ⊥ = cc in no)
+device_stands (Some OutsideLine) d k h = absurd (let no : ⊥ = cc in no)
 
 -- ---- what is put in order was there
 
@@ -168,8 +151,8 @@ module _ {X : Type 0} (key : X → List ℕ) where
   ordered_once_from [] z i = i
   ordered_once_from (x ∷ xs) z i = elim (put_once_from x (in_order_once key xs) z i) [ inl e ↦ inl e | inr j ↦ inr (ordered_once_from xs z j) ]
 
-section_sayable : (t : TileText) → IsSayableTile t → IsSayableTile (section_in_order t)
-section_sayable t h = record {
+pub section_stands : (t : TileText) → IsFormedSection t → IsFormedSection (section_in_order t)
+section_stands t h = record {
   name = h.name;
   lines = record { arcs = λ a i. h.lines.arcs a (ordered_once_from arc_key t.arcs a i); words = h.lines.words; enums = h.lines.enums; unknowns = h.lines.unknowns };
 }
@@ -183,10 +166,10 @@ line_feeds number start (first ∷ lines) text h line i = elim i [
   | inr j ↦ line_feeds (min (number + 1) last_number) (start + (length text - length h.0)) lines h.0 h.4 line j
 ]
 
-says_sayable : (line : Line) (number : ℕ) (before : List Item) → no_line_feed line.text ≡ true → (o : Option ConfigLine) → says line.text (words_in line) ≡ o → says_fault number before o ≡ None → SaysSayable o
-says_sayable line number before feeds None e k = tt
-says_sayable line number before feeds (Some said) e k =
-    said_sayable line.text said feeds (sym (ap (says line.text) (words_are line)) ∙ e)
+says_what_stands : (line : Line) (number : ℕ) (before : List Item) → no_line_feed line.text ≡ true → (o : Option ConfigLine) → says line.text (words_in line) ≡ o → says_fault number before o ≡ None → SaysWhatStands o
+says_what_stands line number before feeds None e k = tt
+says_what_stands line number before feeds (Some said) e k =
+    said_stands line.text said feeds (sym (ap (says line.text) (words_are line)) ∙ e)
     (λ out. (let fault : says_fault number before (Some OutsideLine) ≡ None = subst (λ s. says_fault number before (Some s) ≡ None) out k in let no : ⊥ = cc in no))
 
 none_in : {X E : Type 0} (f : List X → X → Option E) (before xs : List X) → first_fault_after f before xs ≡ None → (x : X) → In xs x → (b : List X) × (f b x ≡ None)
@@ -195,33 +178,15 @@ none_in f before (y ∷ ys) h x i =
     let p = or_none (f before y) (first_fault_after f (before ++ y ∷ []) ys) h in
     elim i [ inl e ↦ (before, subst (λ z. f before z ≡ None) e p.0) | inr j ↦ none_in f (before ++ y ∷ []) ys p.1 x j ]
 
-items_sayable : (bytes : List ℕ) → first_fault item_fault (items_of bytes) ≡ None → AllSayable (items_of bytes)
-items_sayable bytes h item i =
+pub items_stand : (bytes : List ℕ) → first_fault item_fault (items_of bytes) ≡ None → AllStand (items_of bytes)
+items_stand bytes h item i =
     let l = of_map item_of (filter (λ line. not (is_skipped (words_in line))) (lines_of bytes)) item i in
     let there = (in_filter_from (λ line. not (is_skipped (words_in line))) (lines_of bytes) l.0 l.1.0).0 in
     let f = none_in item_fault [] (items_of bytes) h item i in
     let right = subst (λ x. item_fault f.0 x ≡ None) (sym l.1.1) f.1 in
-    subst (λ (x : Item). SaysSayable x.says) l.1.1
-    (says_sayable l.0 l.0.number f.0 (line_feeds 1 0 (lines_of bytes) bytes (lines_make bytes) l.0 there) (says l.0.text (words_in l.0)) refl right)
+    subst (λ (x : Item). SaysWhatStands x.says) l.1.1
+    (says_what_stands l.0 l.0.number f.0 (line_feeds 1 0 (lines_of bytes) bytes (lines_make bytes) l.0 there) (says l.0.text (words_in l.0)) refl right)
 
 pub no_fault : {c : Config} (o : Option ConfigFault) (r : Result Config ConfigFault) → unless_fault o r ≡ Ok c → (o ≡ None) × (r ≡ Ok c)
 no_fault None r h = (refl, h)
 no_fault (Some f) r h = absurd (let no : ⊥ = cc in no)
-
-config_sayable : (items : List Item) (ds : List (List ℕ)) (c : Config) → AllSayable items → ((d : List ℕ) → In ds d → is_name d ≡ true) → with_device items ds ≡ Ok c → IsSayableConfig c
-config_sayable items [] c h k e = absurd (let no : ⊥ = cc in no)
-config_sayable items (d ∷ ds) c h k e =
-    let same : config_of d items ≡ c = cc in
-    let tiles : (t : TileText) → In (config_of d items).tiles t → IsSayableTile t = λ t i.
-    (let m = of_map section_in_order (sections_of items) t (ordered_from (λ t. t.tile) (map section_in_order (sections_of items)) t i) in
-    subst IsSayableTile m.1.1 (section_sayable m.0 ((behind_sayable items h).sections m.0 m.1.0))) in
-    subst IsSayableConfig same (record { device = k d (inl refl); heads = heads_sayable items h; tiles = tiles })
-
--- a configuration that is read says what can be printed
-pub read_sayable : (c : Config) → IsReadConfig c → IsSayableConfig c
-read_sayable c read =
-    let items = items_of read.0 in
-    let n = no_fault (first_fault item_fault items) (with_device items (devices_of items)) read.1 in
-    let all = items_sayable read.0 n.0 in
-    config_sayable items (devices_of items) c all
-    (λ d i. (let r = in_filter_map_from (λ (item : Item). device_in item.says) items d i in device_sayable r.0.says d (all r.0 r.1) r.2)) n.1

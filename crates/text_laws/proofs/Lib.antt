@@ -10,5 +10,8 @@ pub mod ConfigRead
 pub mod ConfigPrinted
 pub mod PrintedParts
 pub mod ConfigOrder
+pub mod ReadFormed
 pub mod SameAgain
 pub mod NoFaults
+pub mod SameWrites
+pub mod SameFaults

@@ -1,37 +1,32 @@
--- The text of a configuration that is read has no fault.
-use Rattle.std.proofs.Common.{◌≡◌, ◌<◌, ◌≤◌, ◌+◌, ℕ, suc, Bool, true, false, not, inl, inr, List, [], ◌∷◌, ◌++◌, length, map, flat_map, Option, Some, None, cond, refl, sym, ap, subst, ◌∙◌, arith, append_assoc, append-nil, length-append}
-use Rattle.std.specs.Prelude.{Ok, nat_lt}
+-- The text of a configuration of the form that is read has no fault.
+use Rattle.std.proofs.Common.{◌≡◌, ◌<◌, ◌≤◌, ◌+◌, ℕ, Bool, true, false, not, inl, inr, List, [], ◌∷◌, ◌++◌, length, map, filter, flat_map, Some, None, cond, refl, sym, ap, subst, ◌∙◌, arith, append_assoc, append-nil, length-append}
+use Rattle.std.specs.Prelude.{Result, Ok, nat_lt}
 use Rattle.std.specs.List.{cons_option}
 use Rattle.std.specs.Str.{bytes_eq}
-use Rattle.std.proofs.lemmas.Bool.{lt-ltb, ltb-true}
+use Rattle.std.proofs.lemmas.Bool.{false≢true, lt-ltb}
 use Rattle.std.proofs.lemmas.List.{length-map}
 use Rattle.std.proofs.lemmas.Slice.Eq.{bytes_eq-Decides}
 use Rattle.std.proofs.lemmas.List.Elements.{filter_map-append}
 use Rattle.words.specs.Members.{In}
 use Rattle.words.specs.Firsts.{first_fault_after, first_fault}
 use Rattle.records.specs.Config.{Head, ArcLine, WordLine, EnumLine, UnknownLine, TileText, Config}
-use Rattle.std.specs.declared.cmp.Ordering.{Ordering}
-use Rattle.std.specs.declared.cmp.Ordering.TheVariants.{Less, Equal, Greater}
-use Rattle.std.specs.Ordering.{nat_cmp, match_ordering}
-use Rattle.std.specs.Cmp.Lexicographic.{slice_cmp}
-use Rattle.config_grammar.specs.Ordered.{put_in_order, in_order}
 use Rattle.formed_laws.proofs.Objects.{rising_once}
 use Rattle.links.proofs.Members.{in_map, in_either}
-use Rattle.cells_laws.proofs.Options.{or_none, none_or}
+use Rattle.cells_laws.proofs.Options.{none_or}
 use Rattle.fabric_laws.proofs.Members.{any_from}
 use Rattle.config_grammar.specs.ConfigLines.{ConfigLine, DeviceLine, HeadLine, TileLine, ArcOf, WordOf, EnumOf, UnknownOf, OutsideLine}
 use Rattle.config_grammar.specs.ConfigPrint.{config_text}
 use Rattle.config_grammar.specs.Sections.{Item, sections_of, device_in}
-use Rattle.config_grammar.specs.ConfigText.{BadLine, TooLarge, items_of, devices_of, has_tile, bad_if, is_none_yet, most_sections, tile_fault, says_fault, item_fault, section_in_order, config_of, with_device, unless_fault, configuration_of}
+use Rattle.config_grammar.specs.ConfigText.{ConfigFault, BadLine, TooLarge, items_of, devices_of, has_tile, bad_if, is_none_yet, most_sections, tile_fault, says_fault, item_fault, config_of, with_device, unless_fault, configuration_of}
 use Rattle.records.specs.Limits.{Tiles}
 use Rattle.formed_laws.specs.Twice.{HasNoneTwice}
-use Rattle.text_laws.specs.Printed.{said_in, section_says, said_by, IsReadConfig}
-use Rattle.text_laws.specs.SameButLines.{SameButLines}
-use Rattle.text_laws.proofs.ConfigOrder.{tile_in, tile_names, names_are, read_in_order}
-use Rattle.text_laws.proofs.ConfigRead.{no_fault}
+use Rattle.text_laws.specs.Formed.{IsFormedText}
+use Rattle.text_laws.specs.Printed.{said_in, section_says, said_by}
+use Rattle.text_laws.specs.SameButLines.{has_lines, EachHasLines, SameButLines}
+use Rattle.text_laws.proofs.ConfigOrder.{tile_in, tile_names, names_are}
 use Rattle.text_laws.proofs.ConfigPrinted.{printed_says}
-use Rattle.text_laws.proofs.PrintedParts.{its_device_is}
-use Rattle.text_laws.proofs.SameAgain.{same_again}
+use Rattle.text_laws.proofs.PrintedParts.{says_some, has_some, its_device_is}
+use Rattle.text_laws.proofs.SameAgain.{same_again, says_lines}
 
 -- lines may stand behind others that name these devices and these tiles
 abbrev RightAfter : List (List ℕ) → List (List ℕ) → List ConfigLine → Type 0
@@ -132,97 +127,56 @@ some_pushed : (ns : List (List ℕ)) (n : List ℕ) → is_none_yet (ns ++ n ∷
 some_pushed [] n = refl
 some_pushed (m ∷ ns) n = refl
 
-says_right : (name : List ℕ) (lines : List ConfigLine) (ds ns : List (List ℕ)) (rest : List ConfigLine) → (In ns name → ⊥) → length ns < 65536 → RightAfter ds ns rest
-    → RightAfter ds (ns ++ name ∷ []) (lines ++ rest) → RightAfter ds ns (section_says name lines ++ rest)
+-- a section that has lines names its tile, and another says nothing
+says_right : (name : List ℕ) (lines : List ConfigLine) (ds ns : List (List ℕ)) (rest : List ConfigLine) → (In ns name → ⊥) → (says_some lines ≡ true → length ns < 65536) → RightAfter ds ns rest
+    → (says_some lines ≡ true → RightAfter ds (ns ++ name ∷ []) (lines ++ rest)) → RightAfter ds ns (section_says name lines ++ rest)
 says_right name [] ds ns rest new few plain inside = plain
-says_right name (l ∷ ls) ds ns rest new few plain inside = (new, few, inside)
+says_right name (l ∷ ls) ds ns rest new few plain inside = (new, few refl, inside refl)
 
-tiles_right : (ts : List TileText) (ds ns : List (List ℕ)) → ((n : List ℕ) → In (map (λ t. t.tile) ts) n → In ns n → ⊥) → HasNoneTwice (map (λ t. t.tile) ts) → length ns + length ts ≤ 65536
-    → RightAfter ds ns (flat_map (λ t. section_says t.tile (said_in t)) ts)
+-- behind a section with lines there is room for it and those with lines behind it, and behind any for those behind it
+counted : (b : Bool) (n left : ℕ) (t : TileText) (ts : List TileText) → length (filter has_lines ts) ≡ left → n + length (cond b (t ∷ filter has_lines ts) (filter has_lines ts)) ≤ 65536
+    → (n + left ≤ 65536) × (b ≡ true → n + 1 + left ≤ 65536)
+counted true n left t ts e h = (omega (arith, e), λ _. omega (arith, e))
+counted false n left t ts e h = (omega (arith, e), λ no. absurd (false≢true no))
+
+tiles_right : (ts : List TileText) (ds ns : List (List ℕ)) → ((n : List ℕ) → In (map (λ t. t.tile) ts) n → In ns n → ⊥) → HasNoneTwice (map (λ t. t.tile) ts)
+    → length ns + length (filter has_lines ts) ≤ 65536 → RightAfter ds ns (flat_map (λ t. section_says t.tile (said_in t)) ts)
 tiles_right [] ds ns apart once few = tt
 tiles_right (t ∷ ts) ds ns apart once few =
     let rest = flat_map (λ t. section_says t.tile (said_in t)) ts in
+    let has = has_some t in
+    let fewer = counted (has_lines t) (length ns) (length (filter has_lines ts)) t ts refl few in
     let later : (n : List ℕ) → In (map (λ t. t.tile) ts) n → In (ns ++ t.tile ∷ []) n → ⊥ = λ n i j. elim (in_either ns (t.tile ∷ []) n j) [
       | inl k ↦ apart n (inr i) k
       | inr k ↦ elim k [ inl e ↦ once.0 (subst (In (map (λ t. t.tile) ts)) (sym e) i) | inr z ↦ z ]
     ] in
-    says_right t.tile (said_in t) ds ns rest (apart t.tile (inl refl)) (omega arith) (tiles_right ts ds ns (λ n i. apart n (inr i)) once.1 (omega arith))
-    (section_right t ds (ns ++ t.tile ∷ []) rest (some_pushed ns t.tile) (tiles_right ts ds (ns ++ t.tile ∷ []) later once.1 (omega (arith, length-append ns (t.tile ∷ [])))))
+    let behind : says_some (said_in t) ≡ true → RightAfter ds (ns ++ t.tile ∷ []) rest = λ s. tiles_right ts ds (ns ++ t.tile ∷ []) later once.1 (omega (arith, length-append ns (t.tile ∷ []), fewer.1 (has ∙ s))) in
+    says_right t.tile (said_in t) ds ns rest (apart t.tile (inl refl)) (λ s. omega (arith, fewer.1 (has ∙ s))) (tiles_right ts ds ns (λ n i. apart n (inr i)) once.1 fewer.0)
+    (λ s. section_right t ds (ns ++ t.tile ∷ []) rest (some_pushed ns t.tile) (behind s))
 
 heads_right : (hs : List Head) (ds ns : List (List ℕ)) (ls : List ConfigLine) → RightAfter ds ns ls → RightAfter ds ns (map (λ h. HeadLine h.text) hs ++ ls)
 heads_right [] ds ns ls r = r
 heads_right (h ∷ hs) ds ns ls r = heads_right hs ds ns ls r
 
-config_right : (c : Config) → HasNoneTwice (map (λ t. t.tile) c.tiles) → length c.tiles ≤ 65536 → RightAfter [] [] (said_by c)
+config_right : (c : Config) → HasNoneTwice (map (λ t. t.tile) c.tiles) → length (filter has_lines c.tiles) ≤ 65536 → RightAfter [] [] (said_by c)
 config_right c once few =
     (refl, heads_right c.heads (c.device ∷ []) [] (flat_map (λ t. section_says t.tile (said_in t)) c.tiles) (tiles_right c.tiles (c.device ∷ []) [] (λ n i j. j) once (omega arith)))
 
--- ---- a configuration that is read has few tiles
-
-few_tile : (n : ℕ) (sections : List TileText) (name : List ℕ) → tile_fault n sections name ≡ None → length sections < 65536
-few_tile n sections name h = go (has_tile sections name) (nat_lt (length sections) most_sections) refl h
-  where
-    go : (b c : Bool) → nat_lt (length sections) most_sections ≡ c → cond b (Some (BadLine n)) (cond c None (Some (TooLarge Tiles))) ≡ None → length sections < 65536
-    go true c e k = absurd (let no : ⊥ = cc in no)
-    go false true e k = ltb-true (length sections) 65536 e
-    go false false e k = absurd (let no : ⊥ = cc in no)
-
-still_few : (ns : List (List ℕ)) → length ns ≤ 65536 → length (ns ++ []) ≤ 65536
-still_few ns h = omega (arith, ap length (append-nil ns))
-
-one_more_few : (n : ℕ) (before : List Item) (o : Option ConfigLine) → length (tile_names before) ≤ 65536 → says_fault n before o ≡ None → length (tile_names before ++ cons_option (tile_in o) []) ≤ 65536
-one_more_few n before None h k = still_few (tile_names before) h
-one_more_few n before (Some (DeviceLine d)) h k = still_few (tile_names before) h
-one_more_few n before (Some (HeadLine t)) h k = still_few (tile_names before) h
-one_more_few n before (Some (TileLine name)) h k =
-    omega (arith, length-append (tile_names before) (name ∷ []), few_tile n (sections_of before) name k, length-map {B = List ℕ} (sections_of before) (λ t. t.tile), ap length (names_are before))
-one_more_few n before (Some (ArcOf a b)) h k = still_few (tile_names before) h
-one_more_few n before (Some (WordOf a b)) h k = still_few (tile_names before) h
-one_more_few n before (Some (EnumOf a b)) h k = still_few (tile_names before) h
-one_more_few n before (Some (UnknownOf a b)) h k = still_few (tile_names before) h
-one_more_few n before (Some OutsideLine) h k = still_few (tile_names before) h
-
-few_names : (before items : List Item) → length (tile_names before) ≤ 65536 → first_fault_after item_fault before items ≡ None → length (tile_names (before ++ items)) ≤ 65536
-few_names before [] h k = subst (λ is. length (tile_names is) ≤ 65536) (sym (append-nil before)) h
-few_names before (i ∷ is) h k =
-    let p = or_none (item_fault before i) (first_fault_after item_fault (before ++ i ∷ []) is) k in
-    let more = subst (λ ns. length ns ≤ 65536) (sym (filter_map-append (λ (i : Item). tile_in i.says) before (i ∷ []))) (one_more_few i.number before i.says h p.0) in
-    subst (λ is. length (tile_names is) ≤ 65536) (append_assoc before (i ∷ []) is) (few_names (before ++ i ∷ []) is more p.1)
-
-put_length : {X : Type 0} (key : X → List ℕ) (x : X) (ys : List X) → length (put_in_order key x ys) ≡ suc (length ys)
-put_length key x [] = refl
-put_length key x (y ∷ ys) = go (slice_cmp nat_cmp (key x) (key y)) (put_length key x ys)
-  where
-    go : (o : Ordering) → length (put_in_order key x ys) ≡ suc (length ys) → length (match_ordering o (x ∷ y ∷ ys) (x ∷ y ∷ ys) (y ∷ put_in_order key x ys)) ≡ suc (suc (length ys))
-    go Less e = refl
-    go Equal e = refl
-    go Greater e = ap suc e
-
-ordered_length : {X : Type 0} (key : X → List ℕ) (xs : List X) → length (in_order key xs) ≡ length xs
-ordered_length key [] = refl
-ordered_length key (x ∷ xs) = put_length key x (in_order key xs) ∙ ap suc (ordered_length key xs)
-
-few_tiles : (items : List Item) (ds : List (List ℕ)) (c : Config) → length (tile_names items) ≤ 65536 → with_device items ds ≡ Ok c → length c.tiles ≤ 65536
-few_tiles items [] c h e = absurd (let no : ⊥ = cc in no)
-few_tiles items (d ∷ ds) c h e =
-    let same : config_of d items ≡ c = cc in
-    let sections = sections_of items in
-    subst (λ (x : Config). length x.tiles ≤ 65536) same
-    (omega (arith, ordered_length (λ (t : TileText). t.tile) (map section_in_order sections), length-map {B = TileText} sections section_in_order, length-map {B = List ℕ} sections (λ t. t.tile), ap length (names_are items)))
-
-read_few : (c : Config) → IsReadConfig c → length c.tiles ≤ 65536
-read_few c read =
-    let items = items_of read.0 in
-    let n = no_fault (first_fault item_fault items) (with_device items (devices_of items)) read.1 in
-    few_tiles items (devices_of items) c (few_names [] items (omega arith) n.0) n.1
-
 -- ---- the whole
 
-pub printed_read : (c : Config) → IsReadConfig c → (d : Config) × ((configuration_of (config_text c) ≡ Ok d) × SameButLines c d)
-printed_read c read =
+-- what the text of a configuration is read as
+printed_value : (c : Config) → IsFormedText c → configuration_of (config_text c) ≡ Ok (config_of c.device (items_of (config_text c)))
+printed_value c formed =
     let items = items_of (config_text c) in
-    let once = rising_once (map (λ (t : TileText). t.tile) c.tiles) (read_in_order c read).tiles in
-    let no_faults : first_fault item_fault items ≡ None = right (said_by c) [] items (printed_says c read) (config_right c once (read_few c read)) in (
-      config_of c.device items,
-      (ap (λ f. unless_fault f (with_device items (devices_of items))) no_faults ∙ ap (with_device items) (its_device_is c read), same_again c read),
-    )
+    let once = rising_once (map (λ (t : TileText). t.tile) c.tiles) formed.order.tiles in
+    let no_faults : first_fault item_fault items ≡ None = right (said_by c) [] items (printed_says c formed) (config_right c once formed.few) in
+    ap (λ f. unless_fault f (with_device items (devices_of items))) no_faults ∙ ap (with_device items) (its_device_is c formed)
+
+pub printed_read : (c : Config) → IsFormedText c → (d : Config) × ((configuration_of (config_text c) ≡ Ok d) × SameButLines c d)
+printed_read c formed = (config_of c.device (items_of (config_text c)), (printed_value c formed, same_again c formed))
+
+pub printed_lines : (c d : Config) → IsFormedText c → configuration_of (config_text c) ≡ Ok d → EachHasLines d
+printed_lines c d formed read = (let same = sym (printed_value c formed) ∙ read in subst EachHasLines (ok_same same) (says_lines c formed))
+  where
+    ok_same : {a b : Config} → let r : Result Config ConfigFault = Ok a in r ≡ Ok b → a ≡ b
+    ok_same e = cc

@@ -7,7 +7,8 @@ use Rattle.config_grammar.specs.ConfigLines.{ConfigLine, DeviceLine, HeadLine, T
 use Rattle.config_grammar.specs.ConfigPrint.{config_text}
 use Rattle.config_grammar.specs.ConfigText.{items_of, devices_of}
 use Rattle.config_grammar.specs.Sections.{Item, no_lines, Behind, behind_with, behind_of, sections_of, head_before, heads_of, device_in}
-use Rattle.text_laws.specs.Printed.{said_in, section_says, said_by, IsReadConfig}
+use Rattle.text_laws.specs.Printed.{said_in, section_says, said_by}
+use Rattle.text_laws.specs.Formed.{IsFormedText}
 use Rattle.text_laws.specs.SameButLines.{unnumbered_arc, unnumbered_word, unnumbered_enum, unnumbered_unknown, unnumbered, has_lines}
 use Rattle.text_laws.proofs.ConfigPrinted.{printed_says}
 
@@ -182,17 +183,21 @@ section_behind t rest ts e =
     (ap₂ (λ (x : List ArcLine) (y : List WordLine). let p : List ArcLine × List WordLine = (x, y) in p) (append-nil (map unnumbered_arc t.arcs)) (append-nil (map unnumbered_word t.words)))
     (ap₂ (λ (x : List EnumLine) (y : List UnknownLine). let p : List EnumLine × List UnknownLine = (x, y) in p) (append-nil (map unnumbered_enum t.enums)) (append-nil (map unnumbered_unknown t.unknowns)))
 
-abbrev says_some : List ConfigLine → Bool
+abbrev pub says_some : List ConfigLine → Bool
 says_some [] = false
 says_some (line ∷ lines) = true
 
+-- whether lines of four kinds are some, by what they say
+some_lines : (arcs : List ArcLine) (ws : List WordLine) (es : List EnumLine) (us : List UnknownLine) (tile : List ℕ) (line : ℕ) → let t : TileText = record { tile = tile; line = line; arcs = arcs; words = ws; enums = es; unknowns = us } in has_lines t ≡ says_some (said_in t)
+some_lines (a ∷ more) ws es us tile line = refl
+some_lines [] (w ∷ ws) es us tile line = refl
+some_lines [] [] (e ∷ es) us tile line = refl
+some_lines [] [] [] (u ∷ us) tile line = refl
+some_lines [] [] [] [] tile line = refl
+
 -- whether a section has lines, by what they say
-has_some : (arcs : List ArcLine) (ws : List WordLine) (es : List EnumLine) (us : List UnknownLine) (tile : List ℕ) (line : ℕ) → let t : TileText = record { tile = tile; line = line; arcs = arcs; words = ws; enums = es; unknowns = us } in has_lines t ≡ says_some (said_in t)
-has_some (a ∷ more) ws es us tile line = refl
-has_some [] (w ∷ ws) es us tile line = refl
-has_some [] [] (e ∷ es) us tile line = refl
-has_some [] [] [] (u ∷ us) tile line = refl
-has_some [] [] [] [] tile line = refl
+pub has_some : (t : TileText) → has_lines t ≡ says_some (said_in t)
+has_some t = some_lines t.arcs t.words t.enums t.unknowns t.tile t.line
 
 tile_behind : (t : TileText) (rest : List Item) (ts : List TileText) (lines : List ConfigLine) → said_in t ≡ lines → has_lines t ≡ says_some lines → behind_of rest ≡ only_sections ts
     → behind_of (bare_lines (section_says t.tile lines) ++ rest) ≡ only_sections (cond (has_lines t) (unnumbered t ∷ ts) ts)
@@ -209,7 +214,7 @@ tiles_behind : (ts : List TileText) → behind_of (bare_lines (tiles_say ts)) �
 tiles_behind [] = refl
 tiles_behind (t ∷ ts) =
     ap behind_of (tiles_split t ts)
-    ∙ tile_behind t (bare_lines (tiles_say ts)) (map unnumbered (filter has_lines ts)) (said_in t) refl (has_some t.arcs t.words t.enums t.unknowns t.tile t.line) (tiles_behind ts)
+    ∙ tile_behind t (bare_lines (tiles_say ts)) (map unnumbered (filter has_lines ts)) (said_in t) refl (has_some t) (tiles_behind ts)
     ∙ kept_sections (has_lines t) t (filter has_lines ts)
 
 heads_behind : (hs : List Head) (rest : List Item) → behind_of (bare_lines (map (λ h. HeadLine h.text) hs) ++ rest) ≡ behind_of rest
@@ -218,7 +223,7 @@ heads_behind (h ∷ hs) rest = heads_behind hs rest
 
 -- ---- the text of a configuration
 
-module _ (c : Config) (read : IsReadConfig c) where
+module _ (c : Config) (formed : IsFormedText c) where
   abbrev its_items : List Item
   its_items = items_of (config_text c)
 
@@ -226,7 +231,7 @@ module _ (c : Config) (read : IsReadConfig c) where
   its_heads = map (λ h. HeadLine h.text) c.heads
 
   bared_items : map bare_item its_items ≡ bare_lines (said_by c)
-  bared_items = bare_says its_items (said_by c) (printed_says c read)
+  bared_items = bare_says its_items (said_by c) (printed_says c formed)
 
   pub its_heads_are : heads_of its_items ≡ c.heads
   its_heads_are =

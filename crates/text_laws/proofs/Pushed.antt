@@ -1,11 +1,11 @@
 -- A list in which nothing stands twice, with one more element at its end.
-use Rattle.std.proofs.Common.{◌≡◌, ℕ, false, inl, inr, List, [], ◌∷◌, ◌++◌, map, refl, sym, ap, subst, ◌∙◌}
+use Rattle.std.proofs.Common.{◌≡◌, ℕ, false, inl, inr, List, [], ◌∷◌, ◌++◌, map, sym, subst, ◌∙◌}
 use Rattle.std.specs.List.{list_any}
 use Rattle.std.specs.Str.{bytes_eq}
 use Rattle.std.proofs.lemmas.Bool.{false≢true}
 use Rattle.std.proofs.lemmas.Slice.Eq.{bytes_eq-Decides}
 use Rattle.words.specs.Members.{In}
-use Rattle.links.proofs.Members.{in_map, of_map}
+use Rattle.links.proofs.Members.{of_map}
 use Rattle.fabric_laws.proofs.Members.{any_to}
 use Rattle.formed_laws.specs.Twice.{HasNoneTwice}
 use Rattle.formed_laws.proofs.Twice.{joined_twice}

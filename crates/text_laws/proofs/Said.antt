@@ -1,4 +1,4 @@
--- What a line says can be printed.
+-- What a line says can stand in a text.
 use Rattle.std.proofs.Common.{◌≡◌, ◌≤◌, ◌<◌, ◌+◌, ℕ, suc, Bool, true, false, not, cond, inl, inr, ◌⊎◌, List, [], ◌∷◌, ◌++◌, length, filter, reverse, append_assoc, Option, Some, None, option_map, refl, sym, ap, subst, ◌∙◌, arith}
 use Rattle.std.specs.Prelude.{◌||◌, ◌&&◌, ◌==◌, nat_le, codes}
 use Rattle.std.specs.List.{list_any, list_all, before_first, after_first}
@@ -19,8 +19,9 @@ use Rattle.texts.specs.Pieces.{put_front, pieces}
 use Rattle.texts.specs.Words.{is_blank}
 use Rattle.cells_laws.proofs.Options.{then_from, mapped_from}
 use Rattle.config_grammar.specs.ConfigLines.{ConfigLine, DeviceLine, HeadLine, TileLine, ArcOf, WordOf, EnumOf, UnknownOf, OutsideLine, behind_blanks, without_blanks, is_bit_digit, bits_of_digits, unknown_at, says_one, says_two, says_three, says_words, begins_outside, is_return, says}
-use Rattle.text_laws.proofs.TextLines.{is_word, word_texts}
-use Rattle.text_laws.proofs.Sayings.{says_text, says_as, IsHead, IsSayable}
+use Rattle.text_laws.specs.Formed.{IsHead, CanStand}
+use Rattle.text_laws.proofs.TextLines.{is_word, word_texts, words_are}
+use Rattle.text_laws.proofs.Sayings.{says_text, says_as}
 
 -- ---- blanks at both ends
 
@@ -271,27 +272,28 @@ some_length (b ∷ bs) h = omega arith
 bits_some : (digits : List ℕ) → is_word digits ≡ true → 0 < length (bits_of_digits digits)
 bits_some digits h = omega (arith, some_length digits h, length-map (reverse digits) (λ b. b == 49), length-reverse digits)
 
-sayable : (text : List ℕ) (s : ConfigLine) → no_line_feed text ≡ true → list_any is_return text ≡ false → begins_outside (word_texts text) ≡ false
-    → says_words (without_blanks text) (word_texts text) ≡ Some s → Said (without_blanks text) (word_texts text) s → IsSayable s
-sayable text (DeviceLine name) feeds returns out says h = h
-sayable text (HeadLine head) feeds returns out says h =
+can_stand : (text : List ℕ) (s : ConfigLine) → no_line_feed text ≡ true → list_any is_return text ≡ false → begins_outside (word_texts text) ≡ false
+    → says_words (without_blanks text) (word_texts text) ≡ Some s → Said (without_blanks text) (word_texts text) s → CanStand s
+can_stand text (DeviceLine name) feeds returns out told h = h
+can_stand text (HeadLine head) feeds returns out told h =
     subst IsHead (sym h) (record {
       one_line = all_trimmed (λ b. not (is_line_feed b)) text feeds;
       returns = all_none is_return (without_blanks text) (all_trimmed (λ b. not (is_return b)) text (none_all is_return text returns));
-      says_itself =
-          says_as (without_blanks text) (word_texts text) (all_none is_return (without_blanks text) (all_trimmed (λ b. not (is_return b)) text (none_all is_return text returns))) (same_words text) out
-          ∙ ap (λ t. says_words t (word_texts text)) (trimmed_once text) ∙ says ∙ ap (λ t. Some (HeadLine t)) h;
+      says_itself = λ line is.
+          ap (says (without_blanks text)) (words_are line ∙ ap word_texts is)
+          ∙ says_as (without_blanks text) (word_texts text) (all_none is_return (without_blanks text) (all_trimmed (λ b. not (is_return b)) text (none_all is_return text returns))) (same_words text) out
+          ∙ ap (λ t. says_words t (word_texts text)) (trimmed_once text) ∙ told ∙ ap (λ t. Some (HeadLine t)) h;
     })
-sayable text (TileLine name) feeds returns out says h = h
-sayable text (ArcOf sink source) feeds returns out says h = h
-sayable text (WordOf name bits) feeds returns out says h =
+can_stand text (TileLine name) feeds returns out told h = h
+can_stand text (ArcOf sink source) feeds returns out told h = h
+can_stand text (WordOf name bits) feeds returns out told h =
     (h.0, subst (λ bs. 0 < length bs) h.1.1.1 (bits_some h.1.0 (filtered_word (pieces is_blank text) h.1.0 h.1.1.0)))
-sayable text (EnumOf name value) feeds returns out says h = h
-sayable text (UnknownOf frame bit) feeds returns out says h = h
-sayable text OutsideLine feeds returns out says h = absurd h
+can_stand text (EnumOf name value) feeds returns out told h = h
+can_stand text (UnknownOf frame bit) feeds returns out told h = h
+can_stand text OutsideLine feeds returns out told h = absurd h
 
--- what a line says can be printed
-pub said_sayable : (text : List ℕ) (s : ConfigLine) → no_line_feed text ≡ true → says_text text ≡ Some s → (s ≡ OutsideLine → ⊥) → IsSayable s
-said_sayable text s feeds h out =
+-- what a line says can stand in a text
+pub said_stands : (text : List ℕ) (s : ConfigLine) → no_line_feed text ≡ true → says_text text ≡ Some s → (s ≡ OutsideLine → ⊥) → CanStand s
+said_stands text s feeds h out =
     let p = says_parts (list_any is_return text) (begins_outside (word_texts text)) (says_words (without_blanks text) (word_texts text)) s h out in
-    sayable text s feeds p.0 p.1 p.2 (words_said (without_blanks text) (word_texts text) s p.2)
+    can_stand text s feeds p.0 p.1 p.2 (words_said (without_blanks text) (word_texts text) s p.2)

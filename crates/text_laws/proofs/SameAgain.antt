@@ -12,9 +12,8 @@ use Rattle.config_grammar.specs.ConfigPrint.{config_text}
 use Rattle.config_grammar.specs.ConfigText.{items_of, arc_key, section_in_order, config_of}
 use Rattle.config_grammar.specs.Sections.{sections_of}
 use Rattle.config_grammar.specs.Ordered.{put_in_order, put_once, in_order, in_order_once}
-use Rattle.text_laws.specs.Printed.{IsReadConfig}
-use Rattle.text_laws.specs.SameButLines.{unnumbered_arc, unnumbered, has_lines, SameButLines}
-use Rattle.text_laws.proofs.ConfigOrder.{read_in_order}
+use Rattle.text_laws.specs.Formed.{IsFormedText}
+use Rattle.text_laws.specs.SameButLines.{unnumbered_arc, unnumbered, has_lines, EachHasLines, SameButLines}
 use Rattle.text_laws.proofs.PrintedParts.{its_heads_are, its_sections_are}
 
 -- ---- what is in order stays as it is
@@ -89,17 +88,36 @@ all_left [] h = refl
 all_left (t ∷ ts) h = ap (λ b. cond b (t ∷ filter has_lines ts) (filter has_lines ts)) (h t (inl refl)) ∙ ap (λ us. t ∷ us) (all_left ts (λ u i. h u (inr i)))
 
 -- what the text of a configuration says
-pub same_again : (c : Config) → IsReadConfig c → SameButLines c (config_of c.device (items_of (config_text c)))
-same_again c read =
-    let order = read_in_order c read in
-    let sections = sections_of (items_of (config_text c)) in
-    let kept = filter has_lines c.tiles in
-    let same = its_sections_are c read in
-    let arcs = goes_over (λ t. IsRising name_cmp (map arc_key t.arcs))
-    (λ t u e r. subst (IsRising name_cmp) (sym (keys_of u) ∙ ap (λ (v : TileText). map arc_key v.arcs) (sym e) ∙ keys_of t) r) sections kept same
-    (λ t i. order.arcs t (in_filter_from has_lines c.tiles t i).0) in
-    let some = goes_over (λ t. has_lines t ≡ true) (λ t u e h. sym (lines_kept t) ∙ ap has_lines e ∙ lines_kept u ∙ h) sections kept same (λ t i. (in_filter_from has_lines c.tiles t i).1) in
-    let names : map (λ (t : TileText). t.tile) kept ≡ map (λ t. t.tile) sections = sym (names_of kept) ∙ ap (map (λ t. t.tile)) (sym same) ∙ names_of sections in
-    let rising = subst (IsRising name_cmp) names (left_rising (λ (t : TileText). t.tile) has_lines c.tiles order.tiles) in
-    let tiles : in_order (λ t. t.tile) (map section_in_order sections) ≡ sections = ap (in_order (λ t. t.tile)) (each_in_order sections arcs) ∙ ordered_same (λ t. t.tile) sections rising in
-    record { device = refl; heads = its_heads_are c read; sections = ap (λ ts. map unnumbered (filter has_lines ts)) tiles ∙ ap (map unnumbered) (all_left sections some) ∙ same }
+module _ (c : Config) (formed : IsFormedText c) where
+  abbrev kept : List TileText
+  kept = filter has_lines c.tiles
+
+  abbrev sections : List TileText
+  sections = sections_of (items_of (config_text c))
+
+  sections_have_lines : (t : TileText) → In sections t → has_lines t ≡ true
+  sections_have_lines =
+      goes_over (λ t. has_lines t ≡ true) (λ t u e h. sym (lines_kept t) ∙ ap has_lines e ∙ lines_kept u ∙ h) sections kept (its_sections_are c formed)
+      (λ t i. (in_filter_from has_lines c.tiles t i).1)
+
+  arcs_in_order : (t : TileText) → In sections t → IsRising name_cmp (map arc_key t.arcs)
+  arcs_in_order =
+      goes_over (λ t. IsRising name_cmp (map arc_key t.arcs)) (λ t u e r. subst (IsRising name_cmp) (sym (keys_of u) ∙ ap (λ (v : TileText). map arc_key v.arcs) (sym e) ∙ keys_of t) r) sections kept
+      (its_sections_are c formed) (λ t i. formed.order.arcs t (in_filter_from has_lines c.tiles t i).0)
+
+  -- the sections stand in order already
+  tiles_are_sections : (config_of c.device (items_of (config_text c))).tiles ≡ sections
+  tiles_are_sections =
+      let names : map (λ (t : TileText). t.tile) kept ≡ map (λ t. t.tile) sections = sym (names_of kept) ∙ ap (map (λ t. t.tile)) (sym (its_sections_are c formed)) ∙ names_of sections in
+      let rising = subst (IsRising name_cmp) names (left_rising (λ (t : TileText). t.tile) has_lines c.tiles formed.order.tiles) in
+      ap (in_order (λ t. t.tile)) (each_in_order sections arcs_in_order) ∙ ordered_same (λ t. t.tile) sections rising
+
+  pub same_again : SameButLines c (config_of c.device (items_of (config_text c)))
+  same_again = record {
+    device = refl;
+    heads = its_heads_are c formed;
+    sections = ap (λ ts. map unnumbered (filter has_lines ts)) tiles_are_sections ∙ ap (map unnumbered) (all_left sections sections_have_lines) ∙ its_sections_are c formed;
+  }
+
+  pub says_lines : EachHasLines (config_of c.device (items_of (config_text c)))
+  says_lines t i = sections_have_lines t (subst (λ ts. In ts t) tiles_are_sections i)

@@ -8,7 +8,7 @@ use Rattle.std.proofs.lemmas.List.{map-append, reverse-append, reverse-reverse, 
 use Rattle.std.proofs.lemmas.List.Folds.{list_all-append}
 use Rattle.std.proofs.lemmas.Fmt.{digits_decimal}
 use Rattle.std.proofs.lemmas.Str.Parse.{IsNumeralModel, numerals_by_fold}
-use Rattle.texts.specs.Lines.{is_line_feed}
+use Rattle.texts.specs.Lines.{Line, is_line_feed}
 use Rattle.texts.specs.Names.{is_name_byte, is_name}
 use Rattle.texts.specs.Numbers.{is_digit, value_behind, value_of}
 use Rattle.texts.specs.Parts.{no_line_feed, no_blank}
@@ -18,7 +18,8 @@ use Rattle.texts.proofs.Printed.{bit_of_spelling}
 use Rattle.config_grammar.specs.ConfigLines.{ConfigLine, DeviceLine, HeadLine, TileLine, ArcOf, WordOf, EnumOf, UnknownOf, OutsideLine, without_blanks, is_bit_digit, bits_of_digits, unknown_at, says_two, says_three, says_words, is_outside, begins_outside, is_return, says}
 use Rattle.config_grammar.specs.ConfigPrint.{digits_text}
 use Rattle.text_laws.specs.Printed.{spaced, printed_line}
-use Rattle.text_laws.proofs.TextLines.{is_word, word_texts, IsWord, one_word, more_words}
+use Rattle.text_laws.specs.Formed.{IsHead, CanStand}
+use Rattle.text_laws.proofs.TextLines.{is_word, word_texts, words_are, IsWord, one_word, more_words}
 
 -- ---- bytes of printed lines
 
@@ -185,31 +186,23 @@ unknown_like frame bit f b = record {
       (digit_bytes (decimal bit) (digits_decimal own bit (omega arith)));
 }
 
--- ---- what may be said
+-- ---- lines that can stand in a text
 
--- a head as it is kept: it says itself
-pub record IsHead (text : List ℕ) : Type 0 where
-  pub one_line : no_line_feed text ≡ true
-  pub returns : list_any is_return text ≡ false
-  pub says_itself : says_text text ≡ Some (HeadLine text)
+-- a text as the line of a number
+abbrev pub line_saying : List ℕ → Line
+line_saying text = record { number = 0; start = 0; text = text }
 
-abbrev pub IsSayable : ConfigLine → Type 0
-IsSayable (DeviceLine name) = is_name name ≡ true
-IsSayable (HeadLine text) = IsHead text
-IsSayable (TileLine name) = is_name name ≡ true
-IsSayable (ArcOf sink source) = (is_name sink ≡ true) × (is_name source ≡ true)
-IsSayable (WordOf name bits) = (is_name name ≡ true) × (0 < length bits)
-IsSayable (EnumOf name value) = (is_name name ≡ true) × (is_name value ≡ true)
-IsSayable (UnknownOf frame bit) = (frame ≤ 65535) × (bit ≤ 65535)
-IsSayable OutsideLine = ⊥
+-- a head says itself, by its words
+pub head_says : (text : List ℕ) → IsHead text → says_text text ≡ Some (HeadLine text)
+head_says text h = sym (ap (says text) (words_are (line_saying text))) ∙ h.says_itself (line_saying text) refl
 
 if_named : (line : ConfigLine) (b : Bool) → b ≡ true → cond b (Some line) None ≡ Some line
 if_named line b h = ap (λ c. cond c (Some line) None) h
 
 -- a line that is printed says what it said
-pub says_printed : (line : ConfigLine) → IsSayable line → says_text (printed_line line) ≡ Some line
+pub says_printed : (line : ConfigLine) → CanStand line → says_text (printed_line line) ≡ Some line
 says_printed (DeviceLine name) h = two_say (codes ".device") name (record { some = refl; bytes = refl }) (name_like name h) refl ∙ if_named (DeviceLine name) (is_name name) h
-says_printed (HeadLine text) h = h.says_itself
+says_printed (HeadLine text) h = head_says text h
 says_printed (TileLine name) h = two_say (codes ".tile") name (record { some = refl; bytes = refl }) (name_like name h) refl ∙ if_named (TileLine name) (is_name name) h
 says_printed (ArcOf sink source) h =
     three_say (codes "arc:") sink source (record { some = refl; bytes = refl }) (name_like sink h.0) (name_like source h.1) refl
@@ -229,7 +222,7 @@ says_printed (UnknownOf frame bit) h =
 says_printed OutsideLine h = absurd h
 
 -- and stays one line
-pub printed_bytes : (line : ConfigLine) → IsSayable line → (no_line_feed (printed_line line) ≡ true) × (list_any is_return (printed_line line) ≡ false)
+pub printed_bytes : (line : ConfigLine) → CanStand line → (no_line_feed (printed_line line) ≡ true) × (list_any is_return (printed_line line) ≡ false)
 printed_bytes (DeviceLine name) h = (let b = two_bytes (codes ".device") name (record { some = refl; bytes = refl }) (name_like name h) in (no_feeds (spaced (codes ".device") (name ∷ [])) b, no_returns (spaced (codes ".device") (name ∷ [])) b))
 printed_bytes (HeadLine text) h = (h.one_line, h.returns)
 printed_bytes (TileLine name) h = (let b = two_bytes (codes ".tile") name (record { some = refl; bytes = refl }) (name_like name h) in (no_feeds (spaced (codes ".tile") (name ∷ [])) b, no_returns (spaced (codes ".tile") (name ∷ [])) b))

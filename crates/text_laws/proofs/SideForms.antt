@@ -1,8 +1,8 @@
 -- The elements of a side file that is read, and that what they print has their form.
-use Rattle.std.proofs.Common.{◌≡◌, ◌<◌, ◌^◌, ℕ, Bool, true, false, List, [], ◌∷◌, Option, Some, None, cond, refl, ap, subst, arith}
+use Rattle.std.proofs.Common.{◌≡◌, ◌<◌, ◌≤◌, ◌^◌, ℕ, Bool, true, false, List, [], ◌∷◌, Option, Some, None, cond, refl, ap, subst, arith}
 use Rattle.std.specs.Prelude.{nat_le, if◌then◌else◌}
 use Rattle.std.specs.Option.{option_and_then}
-use Rattle.std.proofs.lemmas.Bool.{leb-true}
+use Rattle.std.proofs.lemmas.Bool.{leb-true, le-leb}
 use Rattle.serde_json.specs.Data.{Data, string}
 use Rattle.serde_json.specs.Find.{as_str, as_number, as_u64}
 use Rattle.records.specs.Side.{Domain, D0, D1, D2, Placed, Triple, Voter}
@@ -13,22 +13,8 @@ use Rattle.json_forms.specs.Parts.{pair_in, triple_in}
 use Rattle.side_form.specs.Placings.{four_of, domain_in, placed_in, names_in, voter_in}
 use Rattle.side_form.specs.SidePrint.{domain_number, whole_value, placed_value, triple_value, voter_value}
 use Rattle.cells_laws.proofs.Options.{then_from}
+use Rattle.text_laws.specs.Formed.{IsFormedCell, IsFormedTriple, IsFormedVoter}
 use Rattle.text_laws.proofs.ReadBack.{IsPlain, name_plain, whole_plain, few_plain}
-
--- the names of a cell are names
-pub record IsPlacedForm (p : Placed) : Type 0 where
-  pub name : is_name p.name ≡ true
-  pub tile : is_name p.tile ≡ true
-  pub kind : is_name p.kind ≡ true
-
-pub record IsTripleForm (t : Triple) : Type 0 where
-  pub first : is_name t.first ≡ true
-  pub second : is_name t.second ≡ true
-  pub third : is_name t.third ≡ true
-
-pub record IsVoterForm (v : Voter) : Type 0 where
-  pub slice : is_name v.slice ≡ true
-  pub table : nat_le v.table 65535 ≡ true
 
 -- what is read as a name is one
 named : (d : Data) (n : List ℕ) → name_in d ≡ Some n → is_name n ≡ true
@@ -79,7 +65,7 @@ placed_parts (Some x) (Some y) (Some z) (Some d) p h =
     let same : record { name = x; tile = y; kind = z; domain = d } ≡ p = cc in
     (ap (λ (q : Placed). Some q.name) same, ap (λ (q : Placed). Some q.tile) same, ap (λ (q : Placed). Some q.kind) same)
 
-pub placed_form : (d : Data) (p : Placed) → placed_in d ≡ Some p → IsPlacedForm p
+pub placed_form : (d : Data) (p : Placed) → placed_in d ≡ Some p → IsFormedCell p
 unfolding placed_in
 placed_form d p h =
     let e = then_from (λ elements. four_of elements >>= placed_of_four) (list_in d) p h in
@@ -90,13 +76,13 @@ placed_form d p h =
 placed_made : (a b c : Option (List ℕ)) (d : Option Domain) (p : Placed) → a ≡ Some p.name → b ≡ Some p.tile → c ≡ Some p.kind → d ≡ Some p.domain → placed_of a b c d ≡ Some p
 placed_made a b c d p e f g h = rw (e, f, g, h)
 
-pub placed_back : (p : Placed) → IsPlacedForm p → placed_in (placed_value p) ≡ Some p
+pub placed_back : (p : Placed) → IsFormedCell p → placed_in (placed_value p) ≡ Some p
 unfolding placed_in
 placed_back p h =
     placed_made (name_in (string p.name)) (name_in (string p.tile)) (name_in (string p.kind)) (domain_in (whole_value (domain_number p.domain))) p
     (name_back p.name h.name) (name_back p.tile h.tile) (name_back p.kind h.kind) (domain_back p.domain)
 
-pub placed_plain : (p : Placed) → IsPlacedForm p → IsPlain 1 (placed_value p)
+pub placed_plain : (p : Placed) → IsFormedCell p → IsPlain 1 (placed_value p)
 placed_plain p h =
     few_plain 0 (string p.name ∷ string p.tile ∷ string p.kind ∷ whole_value (domain_number p.domain) ∷ [])
     (name_plain p.name h.name, (name_plain p.tile h.tile, (name_plain p.kind h.kind, (domain_plain p.domain, tt))))
@@ -117,7 +103,7 @@ triple_parts (Some x) (Some y) (Some z) t h =
     let same : record { first = x; second = y; third = z } ≡ t = cc in
     (ap (λ (u : Triple). Some u.first) same, ap (λ (u : Triple). Some u.second) same, ap (λ (u : Triple). Some u.third) same)
 
-pub triple_form : (d : Data) (t : Triple) → names_in d ≡ Some t → IsTripleForm t
+pub triple_form : (d : Data) (t : Triple) → names_in d ≡ Some t → IsFormedTriple t
 unfolding names_in
 triple_form d t h =
     let f = then_from triple_of_three (triple_in d) t h in
@@ -127,12 +113,12 @@ triple_form d t h =
 triple_made : (a b c : Option (List ℕ)) (t : Triple) → a ≡ Some t.first → b ≡ Some t.second → c ≡ Some t.third → triple_of a b c ≡ Some t
 triple_made a b c t e f g = rw (e, f, g)
 
-pub triple_back : (t : Triple) → IsTripleForm t → names_in (triple_value t) ≡ Some t
+pub triple_back : (t : Triple) → IsFormedTriple t → names_in (triple_value t) ≡ Some t
 unfolding names_in
 triple_back t h =
     triple_made (name_in (string t.first)) (name_in (string t.second)) (name_in (string t.third)) t (name_back t.first h.first) (name_back t.second h.second) (name_back t.third h.third)
 
-pub triple_plain : (t : Triple) → IsTripleForm t → IsPlain 1 (triple_value t)
+pub triple_plain : (t : Triple) → IsFormedTriple t → IsPlain 1 (triple_value t)
 triple_plain t h =
     few_plain 0 (string t.first ∷ string t.second ∷ string t.third ∷ []) (name_plain t.first h.first, (name_plain t.second h.second, (name_plain t.third h.third, tt)))
 
@@ -150,22 +136,22 @@ voter_parts (Some x) None v h = absurd (let no : ⊥ = cc in no)
 voter_parts (Some x) (Some n) v h =
     let same : record { slice = x; table = n } ≡ v = cc in (ap (λ (u : Voter). Some u.slice) same, ap (λ (u : Voter). Some u.table) same)
 
-pub voter_form : (d : Data) (v : Voter) → voter_in d ≡ Some v → IsVoterForm v
+pub voter_form : (d : Data) (v : Voter) → voter_in d ≡ Some v → IsFormedVoter v
 unfolding voter_in
 voter_form d v h =
     let f = then_from voter_of_two (pair_in d) v h in
     let parts = voter_parts (name_in f.0.0) (whole_in 65535 f.0.1) v f.1.1 in
-    record { slice = named f.0.0 v.slice parts.0; table = within 65535 f.0.1 v.table parts.1 }
+    record { slice = named f.0.0 v.slice parts.0; table = leb-true v.table 65535 (within 65535 f.0.1 v.table parts.1) }
 
 voter_made : (a : Option (List ℕ)) (b : Option ℕ) (v : Voter) → a ≡ Some v.slice → b ≡ Some v.table → voter_of a b ≡ Some v
 voter_made a b v e f = rw (e, f)
 
-pub voter_back : (v : Voter) → IsVoterForm v → voter_in (voter_value v) ≡ Some v
+pub voter_back : (v : Voter) → IsFormedVoter v → voter_in (voter_value v) ≡ Some v
 unfolding voter_in
-voter_back v h = voter_made (name_in (string v.slice)) (whole_in 65535 (whole_value v.table)) v (name_back v.slice h.slice) (whole_back 65535 v.table h.table)
+voter_back v h = voter_made (name_in (string v.slice)) (whole_in 65535 (whole_value v.table)) v (name_back v.slice h.slice) (whole_back 65535 v.table (le-leb v.table 65535 h.table))
 
-table_small : (n : ℕ) → nat_le n 65535 ≡ true → n < 2 ^ 64
-table_small n h = let le = leb-true n 65535 h in omega arith
+table_small : (n : ℕ) → n ≤ 65535 → n < 2 ^ 64
+table_small n h = omega arith
 
-pub voter_plain : (v : Voter) → IsVoterForm v → IsPlain 1 (voter_value v)
+pub voter_plain : (v : Voter) → IsFormedVoter v → IsPlain 1 (voter_value v)
 voter_plain v h = few_plain 0 (string v.slice ∷ whole_value v.table ∷ []) (name_plain v.slice h.slice, (whole_plain v.table (table_small v.table h.table), tt))

@@ -1,4 +1,4 @@
--- A side file that is read is printed so that it is read back.
+-- A side file of the form that is read is printed so that it is read back.
 use Rattle.std.proofs.Common.{◌≡◌, ◌≤◌, ℕ, suc, Bool, true, false, inl, inr, List, [], ◌∷◌, ◌++◌, length, map, filter_map, Option, Some, None, cond, refl, ap, subst, ◌∙◌, arith}
 use Rattle.std.specs.Prelude.{Result, Ok, Err, codes, nat_lt}
 use Rattle.std.specs.List.{cons_option}
@@ -23,19 +23,9 @@ use Rattle.cells_laws.proofs.Options.{none_or}
 use Rattle.formed_laws.specs.Readers.{IsReadSide}
 use Rattle.formed_laws.proofs.Elements.{list_judged}
 use Rattle.formed_laws.proofs.Results.{both, no_fault}
+use Rattle.text_laws.specs.Formed.{IsFormedCell, IsFormedTriple, IsFormedVoter, IsFormedSide}
 use Rattle.text_laws.proofs.ReadBack.{IsPlain, line_read, values_plain, PlainMembers, object_plain, plain_within}
-use Rattle.text_laws.proofs.SideForms.{IsPlacedForm, IsTripleForm, IsVoterForm, placed_form, placed_back, placed_plain, triple_form, triple_back, triple_plain, voter_form, voter_back, voter_plain}
-
--- the elements of a side file have their forms, and there is at most one clock
-record HasForms (side : Side) : Type 0 where
-  slices : (p : Placed) → In side.slices p → IsPlacedForm p
-  pads : (p : Placed) → In side.pads p → IsPlacedForm p
-  triples : (t : Triple) → In side.triples t → IsTripleForm t
-  inputs : (t : Triple) → In side.inputs t → IsTripleForm t
-  outputs : (t : Triple) → In side.outputs t → IsTripleForm t
-  clocks : (t : Triple) → In side.clocks t → IsTripleForm t
-  few : length side.clocks ≤ 1
-  voters : (v : Voter) → In side.voters v → IsVoterForm v
+use Rattle.text_laws.proofs.SideForms.{placed_form, placed_back, placed_plain, triple_form, triple_back, triple_plain, voter_form, voter_back, voter_plain}
 
 -- ---- what is read has the forms
 
@@ -108,21 +98,22 @@ side_parts (Ok s) (Ok p) (Ok t) (Ok i) (Ok o) (Ok c) (Ok v) side h =
       voters_are = ap (λ (x : Side). Ok x.voters) same;
     }
 
-side_forms : (d : Data) (side : Side) → side_in d ≡ Ok side → HasForms side
+side_forms : (d : Data) (side : Side) → side_in d ≡ Ok side → side_fault side ≡ None → IsFormedSide side
 unfolding side_in
-side_forms d side h =
+side_forms d side h right =
     let l = side_parts (list_read (codes "slices") placed_in any_form d) (list_read (codes "pads") placed_in any_form d) (list_read (codes "triples") names_in any_form d)
     (list_read (codes "inputs") names_in any_form d) (list_read (codes "outputs") names_in any_form d) (clocks_read d) (list_read (codes "voters") voter_in any_form d) side h in
     let c = clocks_form d side.clocks l.clocks_are in
     record {
-      slices = of_list IsPlacedForm (codes "slices") placed_in placed_form d side.slices l.slices_are;
-      pads = of_list IsPlacedForm (codes "pads") placed_in placed_form d side.pads l.pads_are;
-      triples = of_list IsTripleForm (codes "triples") names_in triple_form d side.triples l.triples_are;
-      inputs = of_list IsTripleForm (codes "inputs") names_in triple_form d side.inputs l.inputs_are;
-      outputs = of_list IsTripleForm (codes "outputs") names_in triple_form d side.outputs l.outputs_are;
-      clocks = of_list IsTripleForm (codes "clocks") names_in triple_form d side.clocks c.0;
-      few = c.1;
-      voters = of_list IsVoterForm (codes "voters") voter_in voter_form d side.voters l.voters_are;
+      slices = of_list IsFormedCell (codes "slices") placed_in placed_form d side.slices l.slices_are;
+      pads = of_list IsFormedCell (codes "pads") placed_in placed_form d side.pads l.pads_are;
+      triples = of_list IsFormedTriple (codes "triples") names_in triple_form d side.triples l.triples_are;
+      inputs = of_list IsFormedTriple (codes "inputs") names_in triple_form d side.inputs l.inputs_are;
+      outputs = of_list IsFormedTriple (codes "outputs") names_in triple_form d side.outputs l.outputs_are;
+      clocks = of_list IsFormedTriple (codes "clocks") names_in triple_form d side.clocks c.0;
+      one_clock = c.1;
+      voters = of_list IsFormedVoter (codes "voters") voter_in voter_form d side.voters l.voters_are;
+      no_fault = right;
     }
 
 -- ---- what has the forms is read back
@@ -166,7 +157,7 @@ side_made s p t i o c v side l = rw (l.slices_are, l.pads_are, l.triples_are, l.
 there : {Y : Type 0} (value : Y → Data) (ys : List Y) → Some (elements (items_of (map value ys))) ≡ Some (map value ys)
 there value ys = ap (λ ds. Some ds) (elements_same (map value ys))
 
-side_back : (side : Side) → HasForms side → side_in (side_value side) ≡ Ok side
+side_back : (side : Side) → IsFormedSide side → side_in (side_value side) ≡ Ok side
 unfolding side_in
 side_back side h =
     let d = side_value side in
@@ -178,7 +169,7 @@ side_back side h =
       triples_are = list_back (codes "triples") names_in triple_value d side.triples (there triple_value side.triples) (λ t i. triple_back t (h.triples t i));
       inputs_are = list_back (codes "inputs") names_in triple_value d side.inputs (there triple_value side.inputs) (λ t i. triple_back t (h.inputs t i));
       outputs_are = list_back (codes "outputs") names_in triple_value d side.outputs (there triple_value side.outputs) (λ t i. triple_back t (h.outputs t i));
-      clocks_are = clocks_back d side.clocks (there triple_value side.clocks) (λ t i. triple_back t (h.clocks t i)) h.few;
+      clocks_are = clocks_back d side.clocks (there triple_value side.clocks) (λ t i. triple_back t (h.clocks t i)) h.one_clock;
       voters_are = list_back (codes "voters") voter_in voter_value d side.voters (there voter_value side.voters) (λ v i. voter_back v (h.voters v i));
     })
 
@@ -194,7 +185,7 @@ side_members side =
     (member (codes "triples") (list_value (map triple_value side.triples))
     (member (codes "voters") (list_value (map voter_value side.voters)) no_members))))))
 
-members_plain : (side : Side) → HasForms side → PlainMembers 2 (side_members side)
+members_plain : (side : Side) → IsFormedSide side → PlainMembers 2 (side_members side)
 members_plain side h = (
   IsUtf8-are_ascii (codes "clocks") refl,
   values_plain 1 triple_value side.clocks (λ t i. triple_plain t (h.clocks t i)),
@@ -225,7 +216,7 @@ members_plain side h = (
   ),
 )
 
-side_plain : (side : Side) → HasForms side → IsPlain 3 (side_value side)
+side_plain : (side : Side) → IsFormedSide side → IsPlain 3 (side_value side)
 side_plain side h = object_plain 2 (side_members side) (members_plain side h) refl
 
 -- ---- the whole
@@ -234,19 +225,19 @@ side_plain side h = object_plain 2 (side_members side) (members_plain side h) re
 abbrev of_value : Data → Result Side SideFault
 of_value d = ok_or (object_in d) (OfForm (BadShape top_key)) >>= λ _. in_form (side_in d) >>= λ side. unless_fault (side_fault side) side
 
-read_back : (side : Side) → HasForms side → side_fault side ≡ None → side_of (side_text side) ≡ Ok side
-read_back side h right =
+pub side_read_back : (side : Side) → IsFormedSide side → side_of (side_text side) ≡ Ok side
+side_read_back side h =
     ap (λ o. ok_or o (OfForm NotJson) >>= of_value) (line_read (side_value side) (plain_within 3 127 (side_value side) (omega arith) (side_plain side h)))
-    ∙ ap (λ r. in_form r >>= λ s. unless_fault (side_fault s) s) (side_back side h) ∙ ap (λ f. unless_fault f side) right
+    ∙ ap (λ r. in_form r >>= λ s. unless_fault (side_fault s) s) (side_back side h) ∙ ap (λ f. unless_fault f side) h.no_fault
 
-pub side_read_back : (side : Side) → IsReadSide side → side_of (side_text side) ≡ Ok side
-side_read_back side read =
+-- a side file that is read has the form that is read
+pub side_formed : (side : Side) → IsReadSide side → IsFormedSide side
+side_formed side read =
     let d = both (ok_or (reading_of read.0) (OfForm NotJson)) of_value side read.1 in
     let o = both (ok_or (object_in d.0) (OfForm (BadShape top_key))) (λ _. in_form (side_in d.0) >>= λ side. unless_fault (side_fault side) side) side d.1.1 in
     let s = both (in_form (side_in d.0)) (λ side. unless_fault (side_fault side) side) side o.1.1 in
     let n = no_fault (side_fault s.0) s.0 side s.1.1 in
-    let right = subst (λ x. side_fault x ≡ None) n.1 n.0 in
-    read_back side (side_forms d.0 side (was_in_form (side_in d.0) side (s.1.0 ∙ ap (λ x. Ok x) n.1))) right
+    side_forms d.0 side (was_in_form (side_in d.0) side (s.1.0 ∙ ap (λ x. Ok x) n.1)) (subst (λ x. side_fault x ≡ None) n.1 n.0)
   where
     was_in_form : (r : Result Side FormFault) (side : Side) → in_form r ≡ Ok side → r ≡ Ok side
     was_in_form (Ok x) side e = let same : x ≡ side = cc in ap (λ y. Ok y) same

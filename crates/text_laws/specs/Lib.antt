@@ -1,3 +1,4 @@
 pub mod Printed
 pub mod SameButLines
 pub mod ConfigOrder
+pub mod Formed

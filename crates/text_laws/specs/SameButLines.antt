@@ -1,5 +1,6 @@
 -- Sections without the numbers of their lines. (Our own.)
-use Rattle.std.specs.Prelude.{◌≡◌, Bool, not, map, filter, ◌&&◌}
+use Rattle.std.specs.Prelude.{◌≡◌, Bool, true, not, map, filter, ◌&&◌}
+use Rattle.words.specs.Members.{In}
 use Rattle.records.specs.Config.{ArcLine, WordLine, EnumLine, UnknownLine, TileText, Config}
 use Rattle.config_grammar.specs.ConfigText.{is_none_yet}
 
@@ -29,6 +30,10 @@ unnumbered t = record {
 -- a section has an arc, a word, an enum or an unknown bit
 abbrev pub has_lines : TileText → Bool
 has_lines t = not (is_none_yet t.arcs && is_none_yet t.words && is_none_yet t.enums && is_none_yet t.unknowns)
+
+-- each section of a configuration has lines
+abbrev pub EachHasLines : Config → Type 0
+EachHasLines c = (t : TileText) → In c.tiles t → has_lines t ≡ true
 
 -- one device and equal heads, and the same sections with lines, but for the numbers of lines
 pub record SameButLines (c d : Config) : Type 0 where
