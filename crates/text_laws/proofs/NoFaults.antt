@@ -175,8 +175,16 @@ printed_value c formed =
 pub printed_read : (c : Config) → IsFormedText c → (d : Config) × ((configuration_of (config_text c) ≡ Ok d) × SameButLines c d)
 printed_read c formed = (config_of c.device (items_of (config_text c)), (printed_value c formed, same_again c formed))
 
-pub printed_lines : (c d : Config) → IsFormedText c → configuration_of (config_text c) ≡ Ok d → EachHasLines d
-printed_lines c d formed read = (let same = sym (printed_value c formed) ∙ read in subst EachHasLines (ok_same same) (says_lines c formed))
+-- a text is read as one configuration
+read_once : (c d : Config) → IsFormedText c → configuration_of (config_text c) ≡ Ok d → config_of c.device (items_of (config_text c)) ≡ d
+read_once c d formed read = same_value (sym (printed_value c formed) ∙ read)
   where
-    ok_same : {a b : Config} → let r : Result Config ConfigFault = Ok a in r ≡ Ok b → a ≡ b
-    ok_same e = cc
+    same_value : {a b : Config} → let r : Result Config ConfigFault = Ok a in r ≡ Ok b → a ≡ b
+    same_value e = cc
+
+-- whatever the text is read as is the same but for lines, and has lines in each section
+pub printed_same : (c d : Config) → IsFormedText c → configuration_of (config_text c) ≡ Ok d → SameButLines c d
+printed_same c d formed read = subst (SameButLines c) (read_once c d formed read) (same_again c formed)
+
+pub printed_lines : (c d : Config) → IsFormedText c → configuration_of (config_text c) ≡ Ok d → EachHasLines d
+printed_lines c d formed read = subst EachHasLines (read_once c d formed read) (says_lines c formed)

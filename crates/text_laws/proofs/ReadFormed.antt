@@ -1,4 +1,4 @@
--- A configuration that is read has the form of one.
+-- A configuration that is read has the form that the laws on printing ask.
 use Rattle.std.proofs.Common.{◌≡◌, ◌<◌, ◌≤◌, ℕ, suc, Bool, true, false, inl, List, [], ◌∷◌, ◌++◌, length, map, filter, Option, Some, None, cond, refl, sym, ap, subst, ◌∙◌, arith, append_assoc, append-nil, length-append}
 use Rattle.std.specs.Prelude.{Ok, nat_lt}
 use Rattle.std.specs.List.{cons_option}
@@ -107,7 +107,7 @@ formed_of items (d ∷ ds) c h k order few e =
       few = subst (λ (x : Config). length (filter has_lines x.tiles) ≤ 65536) (sym same) (omega (arith, left_few has_lines c.tiles, few));
     })
 
--- a configuration that is read has the form that is read
+-- a configuration that is read has the form
 pub read_formed : (c : Config) → IsReadConfig c → IsFormedText c
 read_formed c read =
     let items = items_of read.0 in

@@ -230,7 +230,7 @@ side_read_back side h =
     ap (λ o. ok_or o (OfForm NotJson) >>= of_value) (line_read (side_value side) (plain_within 3 127 (side_value side) (omega arith) (side_plain side h)))
     ∙ ap (λ r. in_form r >>= λ s. unless_fault (side_fault s) s) (side_back side h) ∙ ap (λ f. unless_fault f side) h.no_fault
 
--- a side file that is read has the form that is read
+-- a side file that is read has the form
 pub side_formed : (side : Side) → IsReadSide side → IsFormedSide side
 side_formed side read =
     let d = both (ok_or (reading_of read.0) (OfForm NotJson)) of_value side read.1 in

@@ -25,7 +25,8 @@ ghost use Rattle.text_laws.specs.Printed.{lined, printed_line, said_by, AreOneLi
 ghost use Rattle.texts.specs.Lines.{lines_of, Line};
 ghost use Rattle.texts.specs.Parts.{no_line_feed};
 
-/// A side file that is read has the form that is read.
+/// A side file that is read is of the form `IsFormedSide`: names are names, there is one clock at most, and its lists have no
+/// fault.
 pub fn read_side_is_formed()
     ensures { (side : Side) → IsReadSide side → IsFormedSide side }
 {}
@@ -56,7 +57,8 @@ pub fn read_config_is_in_order()
     ensures { (c : Config) → IsReadConfig c → IsInOrder c }
 {}
 
-/// A configuration that is read has the form that is read.
+/// A configuration that is read is of the form `IsFormedText`: each line can stand in a text, tiles and arcs are in order, and
+/// no more sections have lines than a text may have. The numbers of lines are not asked for.
 pub fn read_config_is_formed()
     ensures { (c : Config) → IsReadConfig c → IsFormedText c }
 {}
