@@ -60,7 +60,7 @@ pub fn one_run()
 {}
 
 /// With no disturbed wire and no touched cell the faulty runs are the undisturbed ones.
-pub fn no_flips()
+pub fn nothing_disturbed()
     ensures { (c : Circuit) (f : Fault) → ((a : ℕ) → In f.disturbed a → ⊥) → ((name : List ℕ) → In f.touched name → ⊥)
         → (start : PartTriple → Bool) (input : ℕ → Triple → Bool) (n : ℕ) (run : ℕ → World)
         → IsRun c f start input n run ↔ IsRun c no_fault start input n run }

@@ -3,5 +3,6 @@ pub mod Decided
 pub mod Upstream
 pub mod Decide
 pub mod Masked
+pub mod Unflipped
 pub mod Plain
 pub mod PlainDomains

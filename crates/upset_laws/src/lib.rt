@@ -1,17 +1,20 @@
 //! Laws of flips of device bits, each the contract of a function with an empty body.
 #![tactic(auto)]
 
-ghost use Rattle.circuit.specs.Faults.{Fault, WithinOneDomain};
+ghost use Rattle.circuit.specs.Faults.{no_fault, Fault, WithinOneDomain};
 ghost use Rattle.circuit.specs.Right.{RightOutside, TwoAreRight};
+ghost use Rattle.circuit.specs.Runs.{IsRun};
+ghost use Rattle.circuit.specs.Triples.{PartTriple};
 ghost use Rattle.circuit.specs.Triplicated.{IsTriplicated};
 ghost use Rattle.circuit.specs.WellFormed.{IsWellFormed};
+ghost use Rattle.circuit.specs.Worlds.{World};
 ghost use Rattle.fabric.specs.Device.{Device};
 ghost use Rattle.fabric.specs.GraphOf.{IsGraph};
 ghost use Rattle.fabric.specs.Links.{routing_of};
 ghost use Rattle.links.specs.Links.{Fed, IsClean};
-ghost use Rattle.patterns.specs.Bits.{Bits};
-ghost use Rattle.records.specs.Side.{Domain};
-ghost use Rattle.std.specs.Prelude.{true, ◌≡◌, ◌↔◌, ℕ};
+ghost use Rattle.patterns.specs.Bits.{Bits, DeviceBit};
+ghost use Rattle.records.specs.Side.{Domain, Triple};
+ghost use Rattle.std.specs.Prelude.{false, true, Bool, ℕ, ◌≡◌, ◌↔◌};
 ghost use Rattle.upset.specs.Configured.{circuit_of, Configured};
 ghost use Rattle.upset.specs.Effect.{IsDisturbed, IsEffect, IsHit, IsShortSource};
 ghost use Rattle.upset.specs.Roots.{IsRoot, RootsHave};
@@ -34,6 +37,13 @@ pub fn unfed_wires_are_roots()
 /// The disturbed wires and the touched cells of any flips can be listed.
 pub fn effect_is_listed()
     ensures { (k : Configured) (flips : Bits) → (f : Fault) × IsEffect k flips f }
+{}
+
+/// Where no bit flips, the faulty runs are the undisturbed ones.
+pub fn no_flips_change_nothing()
+    ensures { (k : Configured) (flips : Bits) → ((b : DeviceBit) → flips b ≡ false) → (f : Fault) → IsEffect k flips f
+        → (start : PartTriple → Bool) (input : ℕ → Triple → Bool) (n : ℕ) (run : ℕ → World)
+        → IsRun (circuit_of k) f start input n run ↔ IsRun (circuit_of k) no_fault start input n run }
 {}
 
 /// Flips that aren't bad make a fault of one domain at most.

@@ -1,6 +1,6 @@
 use Rattle.circuit.specs.Faults.{no_fault}
 use Rattle.circuit_laws.proofs.Quiet.{run_under}
-use Rattle.circuit_laws.proofs.no_flips.Goals as goal
+use Rattle.circuit_laws.proofs.nothing_disturbed.Goals as goal
 
 pub returns : goal.returns
 returns g = λ c f quiet calm start input n run. (
