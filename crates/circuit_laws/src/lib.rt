@@ -1,17 +1,17 @@
 //! Laws of triplicated circuits. There is no code but laws, each the contract of a function with an empty body.
 #![tactic(auto)]
 
-ghost use Rattle.circuit.specs.Cells.{PadCell};
+ghost use Rattle.circuit.specs.Cells.{PadCell, RegisterCell};
 ghost use Rattle.circuit.specs.Choices.{Agree, Follows};
 ghost use Rattle.circuit.specs.Circuits.{Circuit};
 ghost use Rattle.circuit.specs.Designs.{SameDesign};
 ghost use Rattle.circuit.specs.Domains.{HasDomain};
 ghost use Rattle.circuit.specs.Faults.{no_fault, Fault, WithinOneDomain};
-ghost use Rattle.circuit.specs.Parts.{output_pads};
+ghost use Rattle.circuit.specs.Parts.{output_pads, OfRegister, Source};
 ghost use Rattle.circuit.specs.Right.{KeepsOutside, KeepsTwo, RightOutside, TwoAreRight};
 ghost use Rattle.circuit.specs.Runs.{IsRun};
-ghost use Rattle.circuit.specs.Triples.{IsEntry, LiesIn, PartTriple};
-ghost use Rattle.circuit.specs.Triplicated.{IsTriplicated, NoTableLoop};
+ghost use Rattle.circuit.specs.Triples.{triple_of, IsEntry, LiesIn, PartTriple};
+ghost use Rattle.circuit.specs.Triplicated.{IsTriplicated, NoTableLoop, ReadPart};
 ghost use Rattle.circuit.specs.WellFormed.{IsWellFormed};
 ghost use Rattle.circuit.specs.Worlds.{World};
 ghost use Rattle.links.specs.Links.{IsClean};
@@ -47,6 +47,15 @@ pub fn outputs_agree()
         → IsRun c no_fault start input n run → (t : ℕ) → t < n
         → (o : Triple) (x y : List ℕ) → In c.side.outputs o → IsEntry o x → IsEntry o y
         → (run t).shown x ≡ (run t).shown y }
+{}
+
+/// In every undisturbed run and every cycle the read registers of a triple hold one bit.
+pub fn registers_agree()
+    ensures { (c : Circuit) → IsClean c.routing → IsWellFormed c → IsTriplicated c
+        → (start : PartTriple → Bool) (input : ℕ → Triple → Bool) (n : ℕ) (run : ℕ → World)
+        → IsRun c no_fault start input n run → (t : ℕ) → t < n
+        → (s u : Source) (q r : RegisterCell) → ReadPart c s → ReadPart c u → s.kind ≡ OfRegister q → u.kind ≡ OfRegister r
+        → triple_of c.side s.part ≡ triple_of c.side u.part → (run t).part s.part ≡ (run t).part u.part }
 {}
 
 /// Where no table reaches itself, each choice has just one faulty run: there is one that follows it, and any
