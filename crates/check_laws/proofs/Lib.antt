@@ -18,4 +18,5 @@ pub mod OneRefusal
 pub mod Converse
 pub mod BadPlaces
 pub mod OneOutcome
+pub mod OneRun
 pub mod Unrefused

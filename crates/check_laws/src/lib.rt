@@ -9,7 +9,8 @@ ghost use Rattle.circuit.specs.Cells.{Cells};
 ghost use Rattle.circuit.specs.Faults.{Fault};
 ghost use Rattle.circuit.specs.Right.{RightOutside, TwoAreRight};
 ghost use Rattle.commands.specs.Commands.{Command, Inputs};
-ghost use Rattle.design_answers.specs.Outcomes.{IsOutcome, Outcome};
+ghost use Rattle.design_answers.specs.Outcomes.{Outcome};
+ghost use Rattle.design_answers.specs.RunOutcomes.{IsCommandOutcome};
 ghost use Rattle.design_checks.specs.Checks.{Passes};
 ghost use Rattle.design_checks.specs.DesignChecks.{DesignRefused, IsAccepted, IsFirstRefusal, configured_as};
 ghost use Rattle.design_checks.specs.GraphChecks.{graph_size_refusal};
@@ -66,7 +67,8 @@ pub fn sound_design_passes()
         → line_refusal g design.config ≡ None → Passes (DesignRefused design g) }
 {}
 
-/// A command over files has one outcome at most: its status, what it prints and what it writes.
+/// A command has one outcome at most, one over files and one that makes its design: its status, what it prints and what
+/// it writes.
 pub fn one_outcome()
-    ensures { (files : Files) (command : Command) (o p : Outcome) → IsOutcome files command o → IsOutcome files command p → o ≡ p }
+    ensures { (files : Files) (command : Command) (o p : Outcome) → IsCommandOutcome files command o → IsCommandOutcome files command p → o ≡ p }
 {}

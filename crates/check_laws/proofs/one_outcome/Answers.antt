@@ -1,5 +1,5 @@
-use Rattle.check_laws.proofs.OneOutcome.{one_of}
+use Rattle.check_laws.proofs.OneRun.{one_of_command}
 use Rattle.check_laws.proofs.one_outcome.Goals as goal
 
 pub returns : goal.returns
-returns c = one_of
+returns c = one_of_command
