@@ -4,7 +4,7 @@
 ghost use Rattle.fabric.specs.Device.{Device};
 ghost use Rattle.fabric.specs.Graph.{GraphArc};
 ghost use Rattle.fabric.specs.GraphOf.{IsGraph};
-ghost use Rattle.paths.specs.Cuts.{IsLeastCut};
+ghost use Rattle.paths.specs.Cuts.{IsCut, IsLeastCut};
 ghost use Rattle.paths.specs.Paths.{HasNoSinkTwice};
 ghost use Rattle.repair.specs.Routes.{InTree, IsBlocked, IsRoute, IsTheRoute, roads_for};
 ghost use Rattle.repair.specs.Turns.{Turn};
@@ -29,10 +29,10 @@ pub fn route_has_no_sink_twice()
         → IsTheRoute rims t path pin → HasNoSinkTwice (roads_for t) path }
 {}
 
-/// No path of a blocked connection crosses its cut.
-pub fn no_route_crosses_the_cut()
-    ensures { (t : Turn) (inside rim : List ℕ) (path : List GraphArc) (pin : ℕ)
-        → IsBlocked t inside rim pin → IsRoute t path pin → ⊥ }
+/// No path of a connection crosses a cut: where there is one, the least or another, there is no path.
+pub fn no_route_crosses_a_cut()
+    ensures { (t : Turn) (inside : List ℕ) (path : List GraphArc) (pin : ℕ)
+        → IsCut (roads_for t) (InTree t) inside pin → IsRoute t path pin → ⊥ }
 {}
 
 /// A blocked connection has one cut with its rim.
