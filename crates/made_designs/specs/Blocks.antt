@@ -1,6 +1,7 @@
--- Blocks: each is the corridor of MINI-B at a place of its own, two buffers in three copies on fourteen columns. Blocks
--- are numbered from 0. Sixteen stand side by side in a band; a band is two rows high and a block takes fifteen columns,
--- the last of which has no tile. (Our own.)
+-- Blocks, each at a place of its own: two buffers in three copies on fourteen columns. Block 0 is the corridor of MINI-B;
+-- in each further one copy 0 is mirrored, so that v stands left of u in all its copies. Blocks are numbered from 0.
+-- Sixteen stand side by side in a band; a band is two rows high and a block takes fifteen columns, the last of which has
+-- no tile. (Our own.)
 use Rattle.std.specs.Prelude.{ℕ, zero, suc, ◌+◌, ◌*◌, ◌/◌, ◌%◌, List, [], ◌∷◌, ◌++◌, map, flat_map, Some, codes, if◌then◌else◌, ◌==◌}
 use Rattle.std.specs.Fmt.{decimal}
 use Rattle.records.specs.Grid.{Tile}
