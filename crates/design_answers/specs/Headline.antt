@@ -1,8 +1,10 @@
 -- What a hardened design keeps of the one that was read. (The aim is RoRA's; the form is our own.)
-use Rattle.std.specs.Prelude.{◌≡◌, ℕ, ◌<◌, Bool}
+use Rattle.std.specs.Prelude.{◌≡◌, ℕ, ◌<◌, Bool, List, Ok}
 use Rattle.words.specs.Members.{In}
 use Rattle.records.specs.Side.{Domain, Triple}
-use Rattle.circuit.specs.Cells.{PadCell}
+use Rattle.fabric.specs.Graph.{Graph}
+use Rattle.fabric.specs.Image.{image_of}
+use Rattle.circuit.specs.Cells.{PadCell, Cells}
 use Rattle.circuit.specs.Parts.{output_pads}
 use Rattle.circuit.specs.Triples.{PartTriple}
 use Rattle.circuit.specs.Circuits.{Circuit}
@@ -11,8 +13,14 @@ use Rattle.circuit.specs.Faults.{Fault, no_fault}
 use Rattle.circuit.specs.Runs.{IsRun}
 use Rattle.circuit.specs.Right.{KeepsOutside, KeepsTwo}
 use Rattle.circuit.specs.Designs.{SameSide}
+use Rattle.cells.specs.CellsOf.{cells_of}
 use Rattle.upset.specs.Configured.{Configured, circuit_of}
 use Rattle.upset.specs.Safe.{IsMuxFault}
+use Rattle.config_grammar.specs.ConfigText.{configuration_of}
+use Rattle.side_form.specs.Side.{side_of}
+use Rattle.design_files.specs.Designs.{Design}
+use Rattle.design_checks.specs.Checks.{Passes}
+use Rattle.design_checks.specs.DesignChecks.{configured_as, DesignRefused}
 
 -- A circuit gives the outputs of another one: from every common start, on every input and for every number of cycles,
 -- every run of the one and every run of the other show in each cycle the same at each output pad.
@@ -26,9 +34,22 @@ GivesOutputsOf c e = (start : PartTriple → Bool) (input : ℕ → Triple → B
 abbrev pub KeepsOutputsOf : Circuit → Configured → Type 0
 KeepsOutputsOf c k = (f : Fault) → IsMuxFault k f → ((d : Domain) × KeepsOutside c (circuit_of k) f d) × KeepsTwo c (circuit_of k) f
 
--- What was written hardens what was read: the side files are the same but for tiles and kinds, the circuit gives the
--- outputs of the one that was read, and after any one flip at least two of each three outputs keep them forever.
+-- What was written hardens what was read: the side files are the same but for tiles and kinds of slices, the circuit
+-- gives the outputs of the one that was read, and after any one flip at least two of each three outputs keep them forever.
 pub record Hardens (read written : Configured) : Type 0 where
   pub side : SameSide read.side written.side
+  pub pads : read.side.pads ≡ written.side.pads
   pub outputs : GivesOutputsOf (circuit_of read) (circuit_of written)
   pub masked : KeepsOutputsOf (circuit_of read) written
+
+-- The bytes of a text and of a side file are read as a design of the same device. No check of a design refuses it, and it
+-- hardens the one that was read.
+pub record AreHardened (design : Design) (g : Graph) (cells : Cells) (text side : List ℕ) : Type 0 where
+  pub again : Design
+  pub its_cells : Cells
+  pub text_read : configuration_of text ≡ Ok again.config
+  pub side_read : side_of side ≡ Ok again.side
+  pub device : again.device ≡ design.device
+  pub cells_there : cells_of g again.device.profile (image_of g again.config) again.side ≡ Ok its_cells
+  pub passes : Passes (DesignRefused again g)
+  pub hardens : Hardens (configured_as design g cells) (configured_as again g its_cells)

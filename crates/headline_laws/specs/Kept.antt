@@ -14,12 +14,13 @@ use Rattle.attempts.specs.Jobs.{Job, State, read_of}
 use Rattle.formed_laws.specs.SideRead.{IsApart}
 use Rattle.check_laws.specs.Accepted.{FeedsAreModelled}
 
--- A layout over the design's graph with the same side file but for sites, and the same cells but for wires, which are
+-- A layout over the design's graph with the same side file but for sites of slices, and the same cells but for wires, which are
 -- those of its image. It is well formed, ready (so clean), safe and agreeing, each feed of a pin is a modelled output,
 -- and no connection is new.
 pub record KeepsDesign (job : Job) (y : Layout) : Type 0 where
   pub graph : y.graph ≡ job.design.graph
   pub side : SameSide job.design.side y.side
+  pub pads : job.design.side.pads ≡ y.side.pads
   pub apart : IsApart y.side
   pub parts : shape_of job.design.cells ≡ shape_of y.cells
   pub cells : cells_of y.graph job.device.profile (configured y).image y.side ≡ Ok y.cells
