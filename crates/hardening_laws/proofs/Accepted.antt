@@ -14,7 +14,7 @@ use Rattle.named_laws.proofs.Names.{device_names_once}
 use Rattle.check_laws.proofs.Accepted.{accepted_sound}
 use Rattle.headline_laws.specs.Sound.{IsSoundJob}
 use Rattle.headline_laws.proofs.Hardened.{hardened_design_keeps_outputs}
-use Rattle.hardening_laws.proofs.Reading.{device_read}
+use Rattle.hardening_laws.proofs.Reading.{files_read}
 
 pub accepted_sound_job : (files : Files) (inputs : Inputs) (h : Hardening) (design : Design) (g : Graph) (cells : Cells) → IsAccepted files inputs design g cells
     → IsSoundJob (job_of design g cells h)
@@ -22,7 +22,7 @@ accepted_sound_job files inputs h design g cells accepted =
     let sound = accepted_sound files inputs design g cells accepted in
     record {
       read = sound.read;
-      names = device_names_once design.device (device_read files inputs design sound.read.profile accepted.read);
+      names = device_names_once design.device (files_read files inputs design sound.read.profile accepted.read).device;
       clean = sound.clean;
       agree = sound.agree;
       modelled = sound.modelled;

@@ -1,4 +1,5 @@
--- The grid of an accepted design is read from a file, and the database of each type from one or from no bytes.
+-- The configuration and the grid of an accepted design are read from files, and the database of each type from one or from
+-- no bytes.
 use Rattle.std.proofs.Common.{◌≡◌, ℕ, Bool, true, false, List, [], ◌∷◌, length, Option, Some, None, inl, inr, refl, ap, sym, subst}
 use Rattle.std.specs.Prelude.{Result, Ok, Err, nat_lt, if◌then◌else◌}
 use Rattle.words.specs.Members.{In}
@@ -8,13 +9,14 @@ use Rattle.records.specs.Profile.{Profile}
 use Rattle.records.specs.Side.{Side}
 use Rattle.records.specs.Config.{Config}
 use Rattle.grammars.specs.BitsDb as db
+use Rattle.config_grammar.specs.ConfigText.{configuration_of}
 use Rattle.json_forms.specs.Grid.{grid_of}
 use Rattle.json_forms.specs.Results.{◌>>=◌}
 use Rattle.fabric.specs.Device.{TypeDb}
 use Rattle.answers.specs.Refusals.{Refusal, TooLong}
 use Rattle.commands.specs.Commands.{Inputs}
 use Rattle.design_files.specs.Names.{most_config_bytes, most_json_bytes, most_database_bytes, grid_name, database_name, types_of}
-use Rattle.design_files.specs.Parsed.{Files, or_refused, parsed, form_refusal, database_refusal, read_config, read_grid, read_profile, read_side, read_database}
+use Rattle.design_files.specs.Parsed.{Files, or_refused, parsed, config_refusal, form_refusal, database_refusal, read_config, read_grid, read_profile, read_side, read_database}
 use Rattle.design_files.specs.Designs.{Design, no_records, database_in, databases_in, design_of}
 use Rattle.formed_laws.specs.Readers.{IsReadGrid, IsReadProfile}
 use Rattle.formed_laws.proofs.Results.{both}
@@ -33,6 +35,12 @@ short_read false e r x h = h
 grid_from : (name : List ℕ) (o : Option (List ℕ)) (grid : Grid) → parsed name most_json_bytes (read_grid name) o ≡ Ok grid → IsReadGrid grid
 grid_from name None grid h = absurd (let wrong : ⊥ = cc in wrong)
 grid_from name (Some bytes) grid h = (bytes, not_refused (form_refusal name) (grid_of bytes) grid (short_read (nat_lt most_json_bytes (length bytes)) (TooLong name) (read_grid name bytes) grid h))
+
+-- so is a configuration
+config_from : (name : List ℕ) (o : Option (List ℕ)) (config : Config) → parsed name most_config_bytes (read_config name) o ≡ Ok config → (bytes : List ℕ) × (configuration_of bytes ≡ Ok config)
+config_from name None config h = absurd (let wrong : ⊥ = cc in wrong)
+config_from name (Some bytes) config h =
+    (bytes, not_refused (config_refusal name) (configuration_of bytes) config (short_read (nat_lt most_config_bytes (length bytes)) (TooLong name) (read_config name bytes) config h))
 
 -- no bytes are read as no records
 no_bytes : db.database_of [] ≡ Ok no_records
@@ -75,17 +83,22 @@ databases_from files family (kind ∷ kinds) types h t i =
 ok_same : (d e : Design) → (let o : Result Design Refusal = Ok d in o) ≡ Ok e → d ≡ e
 ok_same d e h = cc
 
--- the device of a design that the files give, whose profile is read, is read
+-- some bytes are read as the configuration of a design, and its device is read
+pub record FilesRead (design : Design) : Type 0 where
+  pub config : (bytes : List ℕ) × (configuration_of bytes ≡ Ok design.config)
+  pub device : IsReadDevice design.device
+
+-- what files give, where the profile is read, is read
 module _ (files : Files) (inputs : Inputs) (design : Design) (read_too : IsReadProfile design.device.profile) where
-  pub device_read : design_of files inputs ≡ Ok design → IsReadDevice design.device
+  pub files_read : design_of files inputs ≡ Ok design → FilesRead design
   unfolding design_of
-  device_read h =
+  files_read h =
       let config = both (parsed inputs.config most_config_bytes (read_config inputs.config) (files inputs.config)) after_config design h in
       let grid = both (parsed (grid_at config.0) most_json_bytes (read_grid (grid_at config.0)) (files (grid_at config.0))) (after_grid config.0) design config.1.1 in
       let profile = both (parsed inputs.profile most_json_bytes (read_profile inputs.profile) (files inputs.profile)) (after_profile config.0 grid.0) design grid.1.1 in
       let side = both (parsed inputs.side most_json_bytes (read_side inputs.side) (files inputs.side)) (after_side config.0 grid.0 profile.0) design profile.1.1 in
       let types = both (databases_in files inputs.family (types_of grid.0)) (made config.0 grid.0 profile.0 side.0) design side.1.1 in
-      of_parts config.0 grid.0 profile.0 side.0 types.0 (grid_from (grid_at config.0) (files (grid_at config.0)) grid.0 grid.1.0)
+      of_parts config.0 grid.0 profile.0 side.0 types.0 (config_from inputs.config (files inputs.config) config.0 config.1.0) (grid_from (grid_at config.0) (files (grid_at config.0)) grid.0 grid.1.0)
       (databases_from files inputs.family (types_of grid.0) types.0 types.1.0) types.1.1
     where
       grid_at : Config → List ℕ
@@ -106,12 +119,15 @@ module _ (files : Files) (inputs : Inputs) (design : Design) (read_too : IsReadP
       after_config : Config → Result Design Refusal
       after_config config = parsed (grid_at config) most_json_bytes (read_grid (grid_at config)) (files (grid_at config)) >>= after_grid config
 
-      of_parts : (config : Config) (grid : Grid) (profile : Profile) (side : Side) (types : List TypeDb) → IsReadGrid grid
-          → ((t : TypeDb) → In types t → IsReadDatabase t.db) → made config grid profile side types ≡ Ok design → IsReadDevice design.device
-      of_parts config grid profile side types g ts e =
+      of_parts : (config : Config) (grid : Grid) (profile : Profile) (side : Side) (types : List TypeDb) → (bytes : List ℕ) × (configuration_of bytes ≡ Ok config) → IsReadGrid grid
+          → ((t : TypeDb) → In types t → IsReadDatabase t.db) → made config grid profile side types ≡ Ok design → FilesRead design
+      of_parts config grid profile side types c g ts e =
           let same : record { config = config; device = record { grid = grid; types = types; profile = profile }; side = side } ≡ design = ok_same (record { config = config; device = record { grid = grid; types = types; profile = profile }; side = side }) design e in
           record {
-            grid = subst (λ (d : Design). IsReadGrid d.device.grid) same g;
-            types = subst (λ (d : Design). (t : TypeDb) → In d.device.types t → IsReadDatabase t.db) same ts;
-            profile = read_too;
+            config = subst (λ (d : Design). (bytes : List ℕ) × (configuration_of bytes ≡ Ok d.config)) same c;
+            device = record {
+              grid = subst (λ (d : Design). IsReadGrid d.device.grid) same g;
+              types = subst (λ (d : Design). (t : TypeDb) → In d.device.types t → IsReadDatabase t.db) same ts;
+              profile = read_too;
+            };
           }

@@ -33,7 +33,7 @@ lead_usable : (t : Turn) (w : ℕ) (path : List GraphArc) (pin : ℕ) → LeadsO
 lead_usable t w [] pin p b i = absurd i
 lead_usable t w (a ∷ rest) pin p b i = elim i [ inl e ↦ subst (IsUsable t) e p.1 | inr j ↦ lead_usable t a.sink rest pin p.2 b j ]
 
-arcs_usable : (t : Turn) (path : List GraphArc) (pin : ℕ) → IsRoute t path pin → (b : GraphArc) → In path b → IsUsable t b
+pub arcs_usable : (t : Turn) (path : List GraphArc) (pin : ℕ) → IsRoute t path pin → (b : GraphArc) → In path b → IsUsable t b
 arcs_usable t [] pin p b i = absurd i
 arcs_usable t (a ∷ rest) pin p b i = elim i [ inl e ↦ subst (IsUsable t) e p.1 | inr j ↦ lead_usable t a.sink rest pin p.2 b j ]
 

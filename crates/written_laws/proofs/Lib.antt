@@ -1,0 +1,13 @@
+pub mod Lists
+pub mod Faults
+pub mod DatabaseNames
+pub mod GridNames
+pub mod KindNames
+pub mod SectionNames
+pub mod Sections
+pub mod Arcs
+pub mod Removed
+pub mod Moved
+pub mod Runs
+pub mod Sides
+pub mod Written

@@ -1,0 +1,158 @@
+-- What is written of an accepted design is read as one that hardens it.
+use Rattle.std.proofs.Common.{◌≡◌, ℕ, List, [], ◌∷◌, Option, Some, None, refl, sym, ap, subst, ◌∙◌}
+use Rattle.std.specs.Prelude.{Ok}
+use Rattle.records.specs.Config.{Config}
+use Rattle.patterns.specs.Bits.{Bits}
+use Rattle.links.specs.Links.{IsClean}
+use Rattle.fabric.specs.Agree.{ArcsAgree}
+use Rattle.fabric.specs.Graph.{Graph}
+use Rattle.fabric.specs.Image.{image_of}
+use Rattle.circuit.specs.Cells.{Cells}
+use Rattle.circuit.specs.Triplicated.{IsTriplicated}
+use Rattle.cells.specs.CellsOf.{cells_of}
+use Rattle.upset.specs.Configured.{Configured, circuit_of}
+use Rattle.repair.specs.Turns.{routing}
+use Rattle.repair.specs.Layouts.{Layout, configured}
+use Rattle.attempts.specs.Jobs.{Job}
+use Rattle.attempts.specs.Attempts.{Event, Routed, Standing, IsAnswer, Ended}
+use Rattle.config_grammar.specs.ConfigPrint.{config_text}
+use Rattle.side_form.specs.SidePrint.{side_text}
+use Rattle.answers.specs.Answers.{Done}
+use Rattle.answers.specs.Refusals.{Refusal}
+use Rattle.commands.specs.Commands.{Inputs, Harden, Hardening}
+use Rattle.design_files.specs.Parsed.{Files}
+use Rattle.design_files.specs.Designs.{Design}
+use Rattle.design_checks.specs.Checks.{Passes, ◌before◌, Computed}
+use Rattle.design_checks.specs.GraphChecks.{graph_size_refusal, Overlap}
+use Rattle.design_checks.specs.LineChecks.{line_refusal}
+use Rattle.design_checks.specs.RoutingChecks.{ArcsDiffer, AreContested}
+use Rattle.design_checks.specs.CellChecks.{cell_refusal}
+use Rattle.design_checks.specs.DesignChecks.{GraphRefused, TextRefused, CellsRefused, DesignRefused, configured_as, IsAccepted}
+use Rattle.design_answers.specs.Outcomes.{job_of, Outcome, file, IsOutcome, refuses, stands, hardens, finds_no_route}
+use Rattle.design_answers.specs.Headline.{Hardens, AreHardened}
+use Rattle.formed_laws.specs.Designs.{IsReadDesign}
+use Rattle.check_laws.specs.Accepted.{FeedsAreModelled, IsSound}
+use Rattle.check_laws.proofs.Passing.{first_passes, second_passes}
+use Rattle.check_laws.proofs.Converse.{sound_passes}
+use Rattle.headline_laws.specs.Sound.{IsSoundJob}
+use Rattle.headline_laws.specs.Kept.{KeepsDesign}
+use Rattle.headline_laws.proofs.Runs.{answer_keeps}
+use Rattle.headline_laws.proofs.Hardened.{written_triplicated, hardened_design_keeps_outputs}
+use Rattle.hardening_laws.proofs.Reading.{FilesRead, files_read}
+use Rattle.hardening_laws.proofs.Accepted.{accepted_sound_job}
+use Rattle.text_laws.specs.SameButLines.{SameButLines}
+use Rattle.text_laws.specs.Formed.{IsFormedSide, IsFormedText}
+use Rattle.text_laws.proofs.ReadFormed.{read_formed}
+use Rattle.text_laws.proofs.NoFaults.{printed_read, printed_lines}
+use Rattle.text_laws.proofs.SidePrinted.{side_formed, side_read_back}
+use Rattle.text_laws.proofs.SameWrites.{same_image, same_agreeing}
+use Rattle.text_laws.proofs.SameFaults.{not_refused}
+use Rattle.written_laws.specs.Writable.{IsWritable}
+use Rattle.written_laws.specs.Written.{WritesHardened}
+use Rattle.written_laws.proofs.Faults.{read_is_writable, none_refused}
+use Rattle.written_laws.proofs.SectionNames.{writable_is_formed}
+use Rattle.written_laws.proofs.Runs.{answer_writable}
+use Rattle.written_laws.proofs.Sides.{kept_side_is_formed}
+
+-- a check that a definition computes and that refuses nothing
+nothing_refused : (o : Option Refusal) → Passes (Computed o) → o ≡ None
+nothing_refused None pass = refl
+nothing_refused (Some r) pass = absurd (pass r refl)
+
+module _ (files : Files) (inputs : Inputs) (h : Hardening) (design : Design) (g : Graph) (cells : Cells) (accepted : IsAccepted files inputs design g cells) where
+  abbrev job : Job
+  job = job_of design g cells h
+
+  sound : IsSoundJob job
+  sound = accepted_sound_job files inputs h design g cells accepted
+
+  read : FilesRead design
+  read = files_read files inputs design sound.read.profile accepted.read
+
+  text_formed : IsFormedText design.config
+  text_formed = read_formed design.config read.config
+
+  small : graph_size_refusal g ≡ None
+  small = nothing_refused (graph_size_refusal g) (first_passes (Computed (graph_size_refusal g)) (Overlap design.device g)
+      (first_passes (GraphRefused design g) (TextRefused design g before CellsRefused design g) accepted.passes))
+
+  lines_there : line_refusal g design.config ≡ None
+  lines_there =
+      let image = image_of g design.config in
+      nothing_refused (line_refusal g design.config)
+      (first_passes (Computed (line_refusal g design.config))
+      (ArcsDiffer g image design.config before AreContested g image before Computed (cell_refusal g design.device.profile image design.side))
+      (first_passes (TextRefused design g) (CellsRefused design g) (second_passes (GraphRefused design g) (TextRefused design g before CellsRefused design g) accepted.passes)))
+
+  module _ (log : List Event) (y : Layout) (n : ℕ) (answer : IsAnswer job (Ended log (Routed y n))) where
+    pub text_writable : IsWritable g design.config y.config
+    text_writable = answer_writable job sound.read.graph read.device sound.names (read_is_writable design.device g accepted.graph design.config text_formed lines_there) log y n answer
+
+    pub lines_pass : line_refusal g y.config ≡ None
+    lines_pass = none_refused g design.config y.config text_writable
+
+    pub written_text_formed : IsFormedText y.config
+    written_text_formed = writable_is_formed design.device g accepted.graph read.device design.config y.config text_formed text_writable
+
+    kept : KeepsDesign job y
+    kept = (answer_keeps job sound log y n answer).0
+
+    pub written_side_formed : IsFormedSide y.side
+    written_side_formed = kept_side_is_formed job sound read.device y kept (side_formed design.side sound.read.side)
+
+    -- the design that the bytes are read as
+    module _ (d : Config) (same : SameButLines y.config d) where
+      abbrev again : Design
+      again = record { config = d; device = design.device; side = y.side }
+
+      abbrev k : Configured
+      k = configured_as again g y.cells
+
+      same_configured : configured y ≡ k
+      same_configured i = record { graph = kept.graph i; image = (ap (λ x. image_of x y.config) kept.graph ∙ same_image g y.config d same) i; cells = y.cells; side = y.side }
+
+      cells_read : cells_of g design.device.profile (image_of g d) y.side ≡ Ok y.cells
+      cells_read = subst (λ (z : Configured). cells_of z.graph design.device.profile z.image z.side ≡ Ok z.cells) same_configured kept.cells
+
+      is_sound : IsSound design.device d k
+      is_sound = record {
+        read = record { profile = sound.read.profile; side = (side_text y.side, side_read_back y.side written_side_formed); graph = sound.read.graph; outputs = sound.read.outputs; cells = cells_read };
+        clean = subst (λ z. IsClean (routing z)) same_configured kept.ready.clean;
+        agree = (same_agreeing g (image_of g d) y.config d same).0 (subst (λ (z : Configured). ArcsAgree z.graph z.image y.config) same_configured kept.agree);
+        modelled = subst (λ z. FeedsAreModelled (circuit_of z)) same_configured kept.modelled;
+        triplicated = subst (λ z. IsTriplicated (circuit_of z)) same_configured (written_triplicated job sound log y n answer);
+      }
+
+      again_hardens : Hardens (configured_as design g cells) k
+      again_hardens = subst (Hardens (configured_as design g cells)) same_configured (hardened_design_keeps_outputs job sound log y n answer)
+
+    pub are_hardened : AreHardened design g cells (config_text y.config) (side_text y.side)
+    are_hardened =
+        let r = printed_read y.config written_text_formed in
+        record {
+          again = again r.0 r.1.1;
+          its_cells = y.cells;
+          text_read = r.1.0;
+          side_read = side_read_back y.side written_side_formed;
+          device = refl;
+          cells_there = cells_read r.0 r.1.1;
+          passes = sound_passes (again r.0 r.1.1) g y.cells (is_sound r.0 r.1.1) small
+              (not_refused g y.config r.0 r.1.1 (printed_lines y.config r.0 written_text_formed r.1.0) lines_pass);
+          hardens = again_hardens r.0 r.1.1;
+        }
+
+-- over the outcomes of a run
+pub outcome_hardened : (files : Files) (inputs : Inputs) (h : Hardening) (o : Outcome) → IsOutcome files (Harden inputs h) o → o.status ≡ Done → WritesHardened files inputs h o
+outcome_hardened files inputs h o (refuses e r) done = absurd (let no : ⊥ = cc in no)
+outcome_hardened files inputs h o (stands a s t b) done = absurd (let no : ⊥ = cc in no)
+outcome_hardened files inputs h o (hardens {design = design} {g = g} {cells = cells} {log = log} {y = y} {connections = n} a r) done = record {
+  design = design;
+  graph = g;
+  cells = cells;
+  text = config_text y.config;
+  side = side_text y.side;
+  accepted = a;
+  written = refl;
+  hardened = are_hardened files inputs h design g cells a log y n r;
+}
+outcome_hardened files inputs h o (finds_no_route a r) done = absurd (let no : ⊥ = cc in no)

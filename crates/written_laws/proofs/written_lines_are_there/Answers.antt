@@ -1,0 +1,8 @@
+use Rattle.written_laws.proofs.Written.{text_writable, lines_pass}
+use Rattle.written_laws.proofs.written_lines_are_there.Goals as goal
+
+pub returns-clause-writable : goal.returns-clause-writable
+returns-clause-writable c = text_writable
+
+pub returns-clause-none_refused : goal.returns-clause-none_refused
+returns-clause-none_refused c = lines_pass

@@ -1,0 +1,55 @@
+//! The main law, down to the bytes that are written: the text and the side file that a run writes are read again, as a
+//! design over the same device that no check refuses and that hardens the one that was read. There is no code but laws,
+//! each the contract of a function with an empty body.
+#![tactic(auto)]
+
+ghost use Rattle.answers.specs.Answers.{Done};
+ghost use Rattle.attempts.specs.Attempts.{Ended, Event, IsAnswer, Routed};
+ghost use Rattle.circuit.specs.Cells.{Cells};
+ghost use Rattle.commands.specs.Commands.{Harden, Hardening, Inputs};
+ghost use Rattle.config_grammar.specs.ConfigPrint.{config_text};
+ghost use Rattle.design_answers.specs.Headline.{AreHardened};
+ghost use Rattle.design_answers.specs.Outcomes.{IsOutcome, job_of, Outcome};
+ghost use Rattle.design_checks.specs.DesignChecks.{IsAccepted};
+ghost use Rattle.design_checks.specs.LineChecks.{line_refusal};
+ghost use Rattle.design_files.specs.Designs.{Design};
+ghost use Rattle.design_files.specs.Parsed.{Files};
+ghost use Rattle.fabric.specs.Graph.{Graph};
+ghost use Rattle.repair.specs.Layouts.{Layout};
+ghost use Rattle.side_form.specs.SidePrint.{side_text};
+ghost use Rattle.std.specs.Prelude.{List, None, ℕ, ◌≡◌};
+ghost use Rattle.text_laws.specs.Formed.{IsFormedSide, IsFormedText};
+ghost use Rattle.written_laws.specs.Writable.{IsWritable};
+ghost use Rattle.written_laws.specs.Written.{WritesHardened};
+
+/// The text that a router leaves of an accepted design names its device and has its heads, each of its sections names what
+/// is there, and no line of it is refused.
+pub fn written_lines_are_there()
+    ensures writable { (files : Files) (inputs : Inputs) (h : Hardening) (design : Design) (g : Graph) (cells : Cells) → IsAccepted files inputs design g cells
+        → (log : List Event) (y : Layout) (n : ℕ) → IsAnswer (job_of design g cells h) (Ended log (Routed y n)) → IsWritable g design.config y.config }
+    ensures none_refused { (files : Files) (inputs : Inputs) (h : Hardening) (design : Design) (g : Graph) (cells : Cells) → IsAccepted files inputs design g cells
+        → (log : List Event) (y : Layout) (n : ℕ) → IsAnswer (job_of design g cells h) (Ended log (Routed y n)) → line_refusal g y.config ≡ None }
+{}
+
+/// Its text and its side file have the forms that are read.
+pub fn written_files_are_formed()
+    ensures text { (files : Files) (inputs : Inputs) (h : Hardening) (design : Design) (g : Graph) (cells : Cells) → IsAccepted files inputs design g cells
+        → (log : List Event) (y : Layout) (n : ℕ) → IsAnswer (job_of design g cells h) (Ended log (Routed y n)) → IsFormedText y.config }
+    ensures side { (files : Files) (inputs : Inputs) (h : Hardening) (design : Design) (g : Graph) (cells : Cells) → IsAccepted files inputs design g cells
+        → (log : List Event) (y : Layout) (n : ℕ) → IsAnswer (job_of design g cells h) (Ended log (Routed y n)) → IsFormedSide y.side }
+{}
+
+/// The main law over bytes. Where a router answers for an accepted design with all connections routed, the bytes of its text
+/// and of its side file are read as a design of the same device that no check refuses. It hardens the design that was read:
+/// it gives the same outputs, and after the flip of any one routing-mux bit two of each three outputs at least keep them.
+pub fn what_is_written_is_hardened()
+    ensures { (files : Files) (inputs : Inputs) (h : Hardening) (design : Design) (g : Graph) (cells : Cells) → IsAccepted files inputs design g cells
+        → (log : List Event) (y : Layout) (n : ℕ) → IsAnswer (job_of design g cells h) (Ended log (Routed y n))
+        → AreHardened design g cells (config_text y.config) (side_text y.side) }
+{}
+
+/// So a run of `harden` that is done writes a text and a side file that harden the design of its inputs, and nothing else.
+pub fn what_a_run_writes_is_hardened()
+    ensures { (files : Files) (inputs : Inputs) (h : Hardening) (o : Outcome) → IsOutcome files (Harden inputs h) o → o.status ≡ Done
+        → WritesHardened files inputs h o }
+{}
