@@ -8,7 +8,7 @@ use Rattle.circuit.specs.Cells.{PadCell, Cells}
 use Rattle.circuit.specs.Parts.{output_pads}
 use Rattle.circuit.specs.Triples.{PartTriple}
 use Rattle.circuit.specs.Circuits.{Circuit}
-use Rattle.circuit.specs.Worlds.{World}
+use Rattle.circuit.specs.Worlds.{Bit, World}
 use Rattle.circuit.specs.Faults.{Fault, no_fault}
 use Rattle.circuit.specs.Runs.{IsRun}
 use Rattle.circuit.specs.Right.{KeepsOutside, KeepsTwo}
@@ -23,10 +23,10 @@ use Rattle.design_checks.specs.Checks.{Passes}
 use Rattle.design_checks.specs.DesignChecks.{configured_as, DesignRefused}
 
 -- A circuit gives the outputs of another one: from every common start, on every input and for every number of cycles,
--- every run of the one and every run of the other show in each cycle the same at each output pad.
+-- every run of the one and every run of the other show in each cycle the same bit at each output pad.
 abbrev pub GivesOutputsOf : Circuit → Circuit → Type 0
 GivesOutputsOf c e = (start : PartTriple → Bool) (input : ℕ → Triple → Bool) (n : ℕ) (v w : ℕ → World) → IsRun c no_fault start input n v → IsRun e no_fault start input n w
-    → (t : ℕ) → t < n → (p : PadCell) → In (output_pads c.cells) p → (v t).shown p.name ≡ (w t).shown p.name
+    → (t : ℕ) → t < n → (p : PadCell) → In (output_pads c.cells) p → (b : Bool) × (((v t).shown p.name ≡ Bit b) × ((w t).shown p.name ≡ Bit b))
 
 -- After the flip of any one routing-mux bit, whatever the disturbed wires and the touched cells carry in each cycle,
 -- there is one domain outside which each output pad shows in every cycle what the circuit c shows undisturbed, so that

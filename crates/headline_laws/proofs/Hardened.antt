@@ -1,10 +1,20 @@
 -- What a router writes hardens what was read.
-use Rattle.std.proofs.Common.{ℕ, List}
+use Rattle.std.proofs.Common.{◌≡◌, ℕ, Bool, List, sym, ◌∙◌}
+use Rattle.words.specs.Members.{In}
+use Rattle.records.specs.Side.{Triple}
+use Rattle.circuit.specs.Cells.{PadCell}
+use Rattle.circuit.specs.Parts.{output_pads}
+use Rattle.circuit.specs.Pins.{pad_pin}
 use Rattle.circuit.specs.Circuits.{Circuit}
 use Rattle.circuit.specs.Designs.{SameDesign}
-use Rattle.circuit.specs.Faults.{Fault, WithinOneDomain}
+use Rattle.circuit.specs.Faults.{Fault, no_fault, WithinOneDomain}
+use Rattle.circuit.specs.Runs.{IsCycle}
+use Rattle.circuit.specs.Worlds.{Bit, World}
 use Rattle.circuit.specs.Triplicated.{IsTriplicated}
-use Rattle.circuit_laws.proofs.Sound.{Sound}
+use Rattle.circuit_laws.proofs.Cycle.{is_bit}
+use Rattle.circuit_laws.proofs.Parts.{pad_pin_listed}
+use Rattle.circuit_laws.proofs.Sound.{Sound, to_pin}
+use Rattle.circuit_laws.proofs.Steps.{pad_feeder}
 use Rattle.circuit_laws.proofs.OneDesign.{shown_same}
 use Rattle.circuit_laws.proofs.Keeps.{kept_outside, kept_two}
 use Rattle.upset.specs.Configured.{circuit_of}
@@ -22,6 +32,15 @@ use Rattle.headline_laws.proofs.Alike.{Alike}
 use Rattle.headline_laws.proofs.Triplicated.{triplicated}
 use Rattle.headline_laws.proofs.Formed.{well_formed}
 use Rattle.headline_laws.proofs.Runs.{answer_keeps}
+
+-- an output pad of a triplicated circuit shows a bit, since no clock pad feeds it
+bit_shown : (c : Circuit) → (ok : Sound c) → IsTriplicated c → (input : Triple → Bool) (w : World) → IsCycle c no_fault input w → (p : PadCell) → In (output_pads c.cells) p
+    → (b : Bool) × (w.shown p.name ≡ Bit b)
+bit_shown c ok triplicated input w cycle p i =
+    let a = pad_feeder c ok triplicated p i in
+    let connects = to_pin c a.0 (pad_pin p) (pad_pin_listed c.cells p i) a.1.0 in
+    let b = is_bit c ok input w cycle a.0 p.wire (λ is_clock. triplicated.clocks.pads p i (a.0, (connects, is_clock))) a.1.0 in
+    (b.0, cycle.shows p i (λ touched. touched) ∙ b.1)
 
 module _ (job : Job) (sound : IsSoundJob job) (y : Layout) (k : KeepsDesign job y) (each : HasEachConnection job y) where
   abbrev written : Circuit
@@ -51,7 +70,9 @@ module _ (job : Job) (sound : IsSoundJob job) (y : Layout) (k : KeepsDesign job 
   within f m = (one_domain (configured y) (only m.bit) f m.effect).0 (k.safe m.bit m.is_mux_bit)
 
   gives : GivesOutputsOf (read_of job) written
-  gives start input n v w rv rw t lt p i = shown_same (read_of job) written read_sound written_sound sound.triplicated also_triplicated same start input n v w rv rw t lt p i
+  gives start input n v w rv rw t lt p i =
+      let b = bit_shown (read_of job) read_sound sound.triplicated (input t) (v t) (rv.cycles t lt) p i in
+      (b.0, (b.1, sym (shown_same (read_of job) written read_sound written_sound sound.triplicated also_triplicated same start input n v w rv rw t lt p i) ∙ b.1))
 
   masked : KeepsOutputsOf (read_of job) (configured y)
   masked f m = (

@@ -38,7 +38,7 @@ use Rattle.headline_laws.specs.Sound.{IsSoundJob}
 use Rattle.headline_laws.specs.Kept.{KeepsDesign}
 use Rattle.headline_laws.proofs.Runs.{answer_keeps}
 use Rattle.headline_laws.proofs.Hardened.{written_triplicated, hardened_design_keeps_outputs}
-use Rattle.hardening_laws.proofs.Reading.{FilesRead, files_read}
+use Rattle.hardening_laws.proofs.Reading.{files_read}
 use Rattle.hardening_laws.proofs.Accepted.{accepted_sound_job}
 use Rattle.text_laws.specs.SameButLines.{SameButLines}
 use Rattle.text_laws.specs.Formed.{IsFormedSide, IsFormedText}
@@ -48,7 +48,7 @@ use Rattle.text_laws.proofs.SidePrinted.{side_formed, side_read_back}
 use Rattle.text_laws.proofs.SameWrites.{same_image, same_agreeing}
 use Rattle.text_laws.proofs.SameFaults.{not_refused}
 use Rattle.written_laws.specs.Writable.{IsWritable}
-use Rattle.written_laws.specs.Written.{WritesHardened}
+use Rattle.written_laws.specs.Written.{MayBeHardened, WritesHardened}
 use Rattle.written_laws.proofs.Faults.{read_is_writable, none_refused}
 use Rattle.written_laws.proofs.SectionNames.{writable_is_formed}
 use Rattle.written_laws.proofs.Runs.{answer_writable}
@@ -59,46 +59,51 @@ nothing_refused : (o : Option Refusal) → Passes (Computed o) → o ≡ None
 nothing_refused None pass = refl
 nothing_refused (Some r) pass = absurd (pass r refl)
 
+-- an accepted design may be hardened
 module _ (files : Files) (inputs : Inputs) (h : Hardening) (design : Design) (g : Graph) (cells : Cells) (accepted : IsAccepted files inputs design g cells) where
+  graph_passes : Passes (GraphRefused design g)
+  graph_passes = first_passes (GraphRefused design g) (TextRefused design g before CellsRefused design g) accepted.passes
+
+  text_passes : Passes (TextRefused design g)
+  text_passes = first_passes (TextRefused design g) (CellsRefused design g) (second_passes (GraphRefused design g) (TextRefused design g before CellsRefused design g) accepted.passes)
+
+  pub accepted_may_be_hardened : MayBeHardened design g cells h
+  accepted_may_be_hardened =
+      let sound = accepted_sound_job files inputs h design g cells accepted in
+      let read = files_read files inputs design sound.read.profile accepted.read in
+      let image = image_of g design.config in
+      record {
+        sound = sound;
+        device = read.device;
+        text = read_formed design.config read.config;
+        small = nothing_refused (graph_size_refusal g) (first_passes (Computed (graph_size_refusal g)) (Overlap design.device g) graph_passes);
+        lines = nothing_refused (line_refusal g design.config)
+            (first_passes (Computed (line_refusal g design.config))
+            (ArcsDiffer g image design.config before AreContested g image before Computed (cell_refusal g design.device.profile image design.side)) text_passes);
+      }
+
+module _ (h : Hardening) (design : Design) (g : Graph) (cells : Cells) (may : MayBeHardened design g cells h) where
   abbrev job : Job
   job = job_of design g cells h
 
-  sound : IsSoundJob job
-  sound = accepted_sound_job files inputs h design g cells accepted
-
-  read : FilesRead design
-  read = files_read files inputs design sound.read.profile accepted.read
-
-  text_formed : IsFormedText design.config
-  text_formed = read_formed design.config read.config
-
-  small : graph_size_refusal g ≡ None
-  small = nothing_refused (graph_size_refusal g) (first_passes (Computed (graph_size_refusal g)) (Overlap design.device g)
-      (first_passes (GraphRefused design g) (TextRefused design g before CellsRefused design g) accepted.passes))
-
-  lines_there : line_refusal g design.config ≡ None
-  lines_there =
-      let image = image_of g design.config in
-      nothing_refused (line_refusal g design.config)
-      (first_passes (Computed (line_refusal g design.config))
-      (ArcsDiffer g image design.config before AreContested g image before Computed (cell_refusal g design.device.profile image design.side))
-      (first_passes (TextRefused design g) (CellsRefused design g) (second_passes (GraphRefused design g) (TextRefused design g before CellsRefused design g) accepted.passes)))
+  abbrev sound : IsSoundJob job
+  sound = may.sound
 
   module _ (log : List Event) (y : Layout) (n : ℕ) (answer : IsAnswer job (Ended log (Routed y n))) where
     pub text_writable : IsWritable g design.config y.config
-    text_writable = answer_writable job sound.read.graph read.device sound.names (read_is_writable design.device g accepted.graph design.config text_formed lines_there) log y n answer
+    text_writable = answer_writable job sound.read.graph may.device sound.names (read_is_writable design.device g sound.read.graph design.config may.text may.lines) log y n answer
 
     pub lines_pass : line_refusal g y.config ≡ None
     lines_pass = none_refused g design.config y.config text_writable
 
     pub written_text_formed : IsFormedText y.config
-    written_text_formed = writable_is_formed design.device g accepted.graph read.device design.config y.config text_formed text_writable
+    written_text_formed = writable_is_formed design.device g sound.read.graph may.device design.config y.config may.text text_writable
 
     kept : KeepsDesign job y
     kept = (answer_keeps job sound log y n answer).0
 
     pub written_side_formed : IsFormedSide y.side
-    written_side_formed = kept_side_is_formed job sound read.device y kept (side_formed design.side sound.read.side)
+    written_side_formed = kept_side_is_formed job sound may.device y kept (side_formed design.side sound.read.side)
 
     -- the design that the bytes are read as
     module _ (d : Config) (same : SameButLines y.config d) where
@@ -136,7 +141,7 @@ module _ (files : Files) (inputs : Inputs) (h : Hardening) (design : Design) (g 
           side_read = side_read_back y.side written_side_formed;
           device = refl;
           cells_there = cells_read r.0 r.1.1;
-          passes = sound_passes (again r.0 r.1.1) g y.cells (is_sound r.0 r.1.1) small
+          passes = sound_passes (again r.0 r.1.1) g y.cells (is_sound r.0 r.1.1) may.small
               (not_refused g y.config r.0 r.1.1 (printed_lines y.config r.0 written_text_formed r.1.0) lines_pass);
           hardens = again_hardens r.0 r.1.1;
         }
@@ -153,6 +158,6 @@ outcome_hardened files inputs h o (hardens {design = design} {g = g} {cells = ce
   side = side_text y.side;
   accepted = a;
   written = refl;
-  hardened = are_hardened files inputs h design g cells a log y n r;
+  hardened = are_hardened h design g cells (accepted_may_be_hardened files inputs h design g cells a) log y n r;
 }
 outcome_hardened files inputs h o (finds_no_route a r) done = absurd (let no : ⊥ = cc in no)

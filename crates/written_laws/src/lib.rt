@@ -20,30 +20,40 @@ ghost use Rattle.side_form.specs.SidePrint.{side_text};
 ghost use Rattle.std.specs.Prelude.{List, None, ℕ, ◌≡◌};
 ghost use Rattle.text_laws.specs.Formed.{IsFormedSide, IsFormedText};
 ghost use Rattle.written_laws.specs.Writable.{IsWritable};
-ghost use Rattle.written_laws.specs.Written.{WritesHardened};
+ghost use Rattle.written_laws.specs.Written.{MayBeHardened, WritesHardened};
 
-/// The text that a router leaves of an accepted design names its device and has its heads, each of its sections names what
-/// is there, and no line of it is refused.
+/// An accepted design may be hardened: it is a sound job, its device and its text are read, and its checks pass.
+pub fn accepted_design_may_be_hardened()
+    ensures { (files : Files) (inputs : Inputs) (h : Hardening) (design : Design) (g : Graph) (cells : Cells) → IsAccepted files inputs design g cells
+        → MayBeHardened design g cells h }
+{}
+
+/// The text that a router leaves of such a design names its device and has its heads, each of its sections names what is
+/// there, and no line of it is refused.
 pub fn written_lines_are_there()
-    ensures writable { (files : Files) (inputs : Inputs) (h : Hardening) (design : Design) (g : Graph) (cells : Cells) → IsAccepted files inputs design g cells
+    ensures writable { (design : Design) (g : Graph) (cells : Cells) (h : Hardening) → MayBeHardened design g cells h
         → (log : List Event) (y : Layout) (n : ℕ) → IsAnswer (job_of design g cells h) (Ended log (Routed y n)) → IsWritable g design.config y.config }
-    ensures none_refused { (files : Files) (inputs : Inputs) (h : Hardening) (design : Design) (g : Graph) (cells : Cells) → IsAccepted files inputs design g cells
+    ensures none_refused { (design : Design) (g : Graph) (cells : Cells) (h : Hardening) → MayBeHardened design g cells h
         → (log : List Event) (y : Layout) (n : ℕ) → IsAnswer (job_of design g cells h) (Ended log (Routed y n)) → line_refusal g y.config ≡ None }
 {}
 
-/// Its text and its side file have the forms that are read.
+/// The text and the side file that it leaves have the forms that are read.
 pub fn written_files_are_formed()
-    ensures text { (files : Files) (inputs : Inputs) (h : Hardening) (design : Design) (g : Graph) (cells : Cells) → IsAccepted files inputs design g cells
+    ensures text { (design : Design) (g : Graph) (cells : Cells) (h : Hardening) → MayBeHardened design g cells h
         → (log : List Event) (y : Layout) (n : ℕ) → IsAnswer (job_of design g cells h) (Ended log (Routed y n)) → IsFormedText y.config }
-    ensures side { (files : Files) (inputs : Inputs) (h : Hardening) (design : Design) (g : Graph) (cells : Cells) → IsAccepted files inputs design g cells
+    ensures side { (design : Design) (g : Graph) (cells : Cells) (h : Hardening) → MayBeHardened design g cells h
         → (log : List Event) (y : Layout) (n : ℕ) → IsAnswer (job_of design g cells h) (Ended log (Routed y n)) → IsFormedSide y.side }
 {}
 
 /// The main law over bytes. Where a router answers for an accepted design with all connections routed, the bytes of its text
 /// and of its side file are read as a design of the same device that no check refuses. It hardens the design that was read:
 /// it gives the same outputs, and after the flip of any one routing-mux bit two of each three outputs at least keep them.
+/// So it is for any design that may be hardened.
 pub fn what_is_written_is_hardened()
-    ensures { (files : Files) (inputs : Inputs) (h : Hardening) (design : Design) (g : Graph) (cells : Cells) → IsAccepted files inputs design g cells
+    ensures accepted { (files : Files) (inputs : Inputs) (h : Hardening) (design : Design) (g : Graph) (cells : Cells) → IsAccepted files inputs design g cells
+        → (log : List Event) (y : Layout) (n : ℕ) → IsAnswer (job_of design g cells h) (Ended log (Routed y n))
+        → AreHardened design g cells (config_text y.config) (side_text y.side) }
+    ensures any { (design : Design) (g : Graph) (cells : Cells) (h : Hardening) → MayBeHardened design g cells h
         → (log : List Event) (y : Layout) (n : ℕ) → IsAnswer (job_of design g cells h) (Ended log (Routed y n))
         → AreHardened design g cells (config_text y.config) (side_text y.side) }
 {}

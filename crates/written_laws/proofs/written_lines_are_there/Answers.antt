@@ -2,7 +2,7 @@ use Rattle.written_laws.proofs.Written.{text_writable, lines_pass}
 use Rattle.written_laws.proofs.written_lines_are_there.Goals as goal
 
 pub returns-clause-writable : goal.returns-clause-writable
-returns-clause-writable c = text_writable
+returns-clause-writable c design g cells h = text_writable h design g cells
 
 pub returns-clause-none_refused : goal.returns-clause-none_refused
-returns-clause-none_refused c = lines_pass
+returns-clause-none_refused c design g cells h = lines_pass h design g cells
