@@ -1,5 +1,5 @@
 -- The faults of an arc and of an option, where the open mux or enum is known.
-use Rattle.std.proofs.Common.{◌≡◌, ℕ, List, [], ◌∷◌, ◌++◌, true, false, Option, Some, None, IfSome, Result, Ok, Err, length, nat_lt, sym, ap, ◌∙◌}
+use Rattle.std.proofs.Common.{◌≡◌, ℕ, List, [], ◌∷◌, ◌++◌, true, false, Option, Some, None, IsSome, IfSome, Result, Ok, Err, length, nat_lt, refl, sym, ap, subst, ◌∙◌}
 use Rattle.words.specs.OrMemory.{OrMemory}
 use Rattle.records.specs.Database.{Arc, Mux, WordSetting, EnumOption, EnumSetting}
 use Rattle.patterns.specs.Bits.{PatternBit}
@@ -60,3 +60,7 @@ value_carried (Some f) x x' whole h = absurd (let no : ⊥ = cc in no)
 pub carried : {X Y U E : Type 0} (fault_of : E → Option DbFault) (result : Result U E) (fault : Option DbFault) (x x' : X) (whole : X → Y) → OrMemory (λ _. x') fault_of result (unless_fault fault x) → OrMemory (λ _. whole x') fault_of result (unless_fault fault (whole x))
 carried fault_of (Ok u) fault x x' whole h = value_carried fault x x' whole h
 carried fault_of (Err e) fault x x' whole h = error_carried (fault_of e) fault x (whole x) h
+
+-- a list has a last element behind a push
+pub last_is_there : {X : Type 0} (all front : List X) (x : X) → all ≡ front ++ x ∷ [] → IsSome (last_of all)
+last_is_there all front x split = subst IsSome (sym (ap last_of split ∙ last_pushed front x)) refl

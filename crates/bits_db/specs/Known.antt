@@ -1,19 +1,18 @@
 -- The names that a reader knows already, lent from the source.
 use Rattle.std.specs.Prelude.{◌≡◌, ℕ, Bool, List, Option, Some, None, []}
-use Rattle.std.specs.HashSet.{HashSet, contains}
-use Rattle.std.specs.Str.{bytes_eq}
+use Rattle.std.specs.BTreeSet.{BTreeSet, contains}
+use Rattle.std.specs.Cmp.Lexicographic.{slice_cmp}
+use Rattle.std.specs.Ordering.{nat_cmp}
 use denote.Ref.{Bor}
-use Rattle.std.specs.declared.hash.FoldHasher.{FoldHasher}
-use Rattle.std.specs.declared.hash.BuildHasherDefault.{BuildHasherDefault}
 use Rattle.records.specs.Database.{Arc, Mux, EnumOption, EnumSetting}
 use Rattle.grammars.specs.BitsDb.{has_sink, has_source, has_enum, has_value, last_of}
 
 abbrev pub LentNames : Type 0
-LentNames = HashSet (Bor (List ℕ)) (BuildHasherDefault FoldHasher)
+LentNames = BTreeSet (Bor (List ℕ))
 
 -- the set holds just the names that pass the test
 abbrev pub HoldsJust : LentNames → (List ℕ → Bool) → Type 0
-HoldsJust names test = (q : Bor (List ℕ)) → contains (λ a b. bytes_eq a.now b.now) names q ≡ test q.now
+HoldsJust names test = (q : Bor (List ℕ)) → contains (λ a b. slice_cmp nat_cmp a.now b.now) names q ≡ test q.now
 
 -- the entries of a record that is there
 abbrev pub entries_of : {X Y : Type 0} → (X → List Y) → Option X → List Y

@@ -1,15 +1,25 @@
 -- The fixed connections that a reader knows already, by ends lent from the source.
-use Rattle.std.specs.Prelude.{◌≡◌, List, ◌&&◌}
-use Rattle.std.specs.HashSet.{HashSet, contains}
-use Rattle.std.specs.Str.{bytes_eq}
-use Rattle.std.specs.declared.hash.FoldHasher.{FoldHasher}
-use Rattle.std.specs.declared.hash.BuildHasherDefault.{BuildHasherDefault}
+use Rattle.std.specs.Prelude.{◌≡◌, ℕ, List}
+use Rattle.std.specs.BTreeSet.{BTreeSet, contains}
+use Rattle.std.specs.Cmp.Lexicographic.{slice_cmp}
+use Rattle.std.specs.Ordering.{nat_cmp, ordering_then}
+use Rattle.std.specs.declared.cmp.Ordering.{Ordering}
+use denote.Ref.{Bor}
 use Rattle.records.specs.Database as records
 use Rattle.grammars.specs.RowByRow.{has_connection}
-use Rattle.bits_db.specs.declared.connections.Ends.{Ends}
+
+-- a sink and a source
+abbrev pub Ends : Type 0
+Ends = Bor (List ℕ) × Bor (List ℕ)
+
+-- ends go by sink, and then by source
+abbrev pub ends_order : Ends → Ends → Ordering
+ends_order a b = ordering_then (slice_cmp nat_cmp a.0.now b.0.now) (slice_cmp nat_cmp a.1.now b.1.now)
+
+-- the connection of ends
+abbrev pub connection_of : Ends → records.Fixed
+connection_of ends = record { sink = ends.0.now; source = ends.1.now }
 
 -- the set holds just the ends of the connections
-abbrev pub KnowsEnds : List records.Fixed → HashSet Ends (BuildHasherDefault FoldHasher) → Type 0
-KnowsEnds connections ends =
-    (q : Ends) → contains (λ a b. bytes_eq a.sink.now b.sink.now && bytes_eq a.source.now b.source.now) ends q
-    ≡ has_connection connections (record { sink = q.sink.now; source = q.source.now })
+abbrev pub KnowsEnds : List records.Fixed → BTreeSet Ends → Type 0
+KnowsEnds connections ends = (q : Ends) → contains ends_order ends q ≡ has_connection connections (connection_of q)

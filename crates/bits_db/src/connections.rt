@@ -9,21 +9,17 @@ use super::Fixed;
 use super::row::name_of;
 use rr_ids::List;
 use std::alloc::{AllocError, Global};
-use std::collections::HashSet;
+use std::collections::BTreeSet;
 
-/// The ends of a connection, lent from the source.
-#[derive(Clone, Copy, PartialEq, Eq, Hash)]
-struct Ends<'a> {
-    sink: &'a [u8],
-    source: &'a [u8],
-}
+/// The sink and the source of a connection, lent from the source.
+type Ends<'a> = (&'a [u8], &'a [u8]);
 
 /// The fixed connections that were read so far, each once. Contracts see the fields, as of muxes.
 #[derive(Drop)]
 pub(crate) struct Connections<'a> {
     alloc: Global,
     connections: List<Fixed>,
-    ends: HashSet<Ends<'a>>,
+    ends: BTreeSet<Ends<'a>>,
 }
 
 impl<'a> Connections<'a> {
@@ -35,7 +31,7 @@ impl<'a> Connections<'a> {
         Connections {
             alloc,
             connections: List::new(alloc),
-            ends: HashSet::new(alloc),
+            ends: BTreeSet::new(alloc),
         }
     }
 
@@ -55,7 +51,7 @@ impl<'a> Connections<'a> {
         ensures connections { OnOk result (self.new.connections ≡ with_connection self.old.connections (record { sink = sink.now; source = source.now })) }
         ensures known { OnOk result (KnowsItsEnds self.new) }
     {
-        if !self.ends.insert(Ends { sink, source })? {
+        if !self.ends.insert((sink, source))? {
             return Ok(());
         }
         let sink = name_of(self.alloc, sink)?;

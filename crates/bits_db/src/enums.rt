@@ -9,13 +9,12 @@ ghost use Rattle.bits_db.specs.Faults.{fault_of};
 ghost use Rattle.bits_db.specs.Heads.{IsDefault};
 ghost use Rattle.bits_db.specs.Readings.{KnowsItsEnums};
 
-use super::known::forget_all;
-use super::muxes::MOST_BITS;
+use super::pattern::MOST_BITS;
 use super::row::{name_of, option_of};
 use super::{DbError, EnumOption, EnumSetting};
 use rr_ids::{Limit, List, Name};
 use std::alloc::{AllocError, Global};
-use std::collections::HashSet;
+use std::collections::BTreeSet;
 use text_cut::Words;
 
 /// The enums that were read so far, of which the last may get more options. Contracts see the fields, as of
@@ -24,8 +23,8 @@ use text_cut::Words;
 pub(crate) struct Enums<'a> {
     alloc: Global,
     enums: List<EnumSetting>,
-    names: HashSet<&'a [u8]>,
-    values: HashSet<&'a [u8]>,
+    names: BTreeSet<&'a [u8]>,
+    values: BTreeSet<&'a [u8]>,
 }
 
 // The default of an enum, where it has one.
@@ -48,8 +47,8 @@ impl<'a> Enums<'a> {
         Enums {
             alloc,
             enums: List::new(alloc),
-            names: HashSet::new(alloc),
-            values: HashSet::new(alloc),
+            names: BTreeSet::new(alloc),
+            values: BTreeSet::new(alloc),
         }
     }
 
@@ -86,7 +85,7 @@ impl<'a> Enums<'a> {
             default,
             options,
         })?;
-        forget_all(self.alloc, &mut self.values);
+        self.values.clear();
         Ok(())
     }
 

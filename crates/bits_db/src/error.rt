@@ -10,9 +10,10 @@ pub enum DbError {
     /// The number of the first line outside the grammar, from 1.
     #[error("line {0} is outside the grammar")]
     BadLine(u32),
-    /// A limit that is passed.
+    /// A pattern of more than 32 bits.
     #[error("too many: {0}")]
     TooLarge(Limit),
+    /// No memory is left.
     #[error("out of memory")]
     Memory,
 }

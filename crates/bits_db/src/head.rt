@@ -25,13 +25,8 @@ fn mux_head<'a>(mut words: Words<'a>) -> Option<Head<'a>>
     ensures same { option_map head_view result ≡ db.mux_head (map (λ w. w.text) words.entry) }
     ensures names { IfSome result AreNames }
 {
-    let Some(sink) = words.next() else {
-        return None;
-    };
-    if words.next().is_some() {
-        return None;
-    }
-    if !is_name(sink.text) {
+    let sink = words.next()?;
+    if words.next().is_some() || !is_name(sink.text) {
         return None;
     }
     Some(Head::Mux(sink.text))
@@ -42,9 +37,7 @@ fn word_head<'a>(mut words: Words<'a>) -> Option<Head<'a>>
     ensures same { option_map head_view result ≡ db.word_head (map (λ w. w.text) words.entry) }
     ensures names { IfSome result AreNames }
 {
-    let Some(name) = words.next() else {
-        return None;
-    };
+    let name = words.next()?;
     if words.next().is_some() && words.next().is_some() {
         return None;
     }
@@ -59,19 +52,14 @@ fn enum_head<'a>(mut words: Words<'a>) -> Option<Head<'a>>
     ensures same { option_map head_view result ≡ db.enum_head (map (λ w. w.text) words.entry) }
     ensures names { IfSome result AreNames }
 {
-    let Some(name) = words.next() else {
-        return None;
-    };
+    let name = words.next()?;
     if !is_name(name.text) {
         return None;
     }
     let Some(default) = words.next() else {
         return Some(Head::Enum(name.text, None));
     };
-    if words.next().is_some() {
-        return None;
-    }
-    if !is_name(default.text) {
+    if words.next().is_some() || !is_name(default.text) {
         return None;
     }
     Some(Head::Enum(name.text, Some(default.text)))
@@ -82,19 +70,9 @@ fn fixed_head<'a>(mut words: Words<'a>) -> Option<Head<'a>>
     ensures same { option_map head_view result ≡ db.fixed_head (map (λ w. w.text) words.entry) }
     ensures names { IfSome result AreNames }
 {
-    let Some(sink) = words.next() else {
-        return None;
-    };
-    let Some(source) = words.next() else {
-        return None;
-    };
-    if words.next().is_some() {
-        return None;
-    }
-    if !is_name(sink.text) {
-        return None;
-    }
-    if !is_name(source.text) {
+    let sink = words.next()?;
+    let source = words.next()?;
+    if words.next().is_some() || !is_name(sink.text) || !is_name(source.text) {
         return None;
     }
     Some(Head::Fixed(sink.text, source.text))

@@ -17,7 +17,6 @@ mod database;
 mod enums;
 mod error;
 mod head;
-mod known;
 mod muxes;
 mod pattern;
 mod reader;
@@ -42,7 +41,9 @@ fn read_all<'a>(alloc: Global, bytes: &'a [u8]) -> Result<Reader<'a>, DbError>
     Ok(reader)
 }
 
-/// Reads a database. Of faults the first line's counts; on one line `BadLine` comes before `TooLarge`.
+/// Reads a database, the bits of each pattern in the order of its row. Of faults the first line's counts:
+/// `BadLine` outside the grammar or where a name stands twice, `TooLarge` for a pattern of more than 32 bits. On
+/// one line `BadLine` comes before `TooLarge`.
 #[tactic(auto, using(grammars::proofs::RowLemmas::read_by_lines))]
 pub fn read(alloc: Global, bytes: &[u8]) -> Result<TileDb, DbError>
     ensures { OrMemory (λ db. db) fault_of result (database_of bytes.now) }

@@ -8,16 +8,13 @@ ghost use Rattle.grammars.specs.RowByRow.{with_arc as with_one_arc};
 ghost use Rattle.bits_db.specs.Faults.{fault_of};
 ghost use Rattle.bits_db.specs.Readings.{KnowsItsMuxes};
 
-use super::known::forget_all;
+use super::pattern::MOST_BITS;
 use super::row::{arc_of, name_of};
 use super::{Arc, DbError, Mux};
 use rr_ids::{Limit, List};
 use std::alloc::{AllocError, Global};
-use std::collections::HashSet;
+use std::collections::BTreeSet;
 use text_cut::Words;
-
-/// The most bits of a pattern.
-pub(crate) const MOST_BITS: usize = 32;
 
 /// The muxes that were read so far, of which the last may get more arcs. Contracts see the fields, since the
 /// sets are in step with the list only until an error, behind which the muxes are not used.
@@ -25,8 +22,8 @@ pub(crate) const MOST_BITS: usize = 32;
 pub(crate) struct Muxes<'a> {
     alloc: Global,
     muxes: List<Mux>,
-    sinks: HashSet<&'a [u8]>,
-    sources: HashSet<&'a [u8]>,
+    sinks: BTreeSet<&'a [u8]>,
+    sources: BTreeSet<&'a [u8]>,
 }
 
 // The arcs in just the room that they take.
@@ -58,8 +55,8 @@ impl<'a> Muxes<'a> {
         Muxes {
             alloc,
             muxes: List::new(alloc),
-            sinks: HashSet::new(alloc),
-            sources: HashSet::new(alloc),
+            sinks: BTreeSet::new(alloc),
+            sources: BTreeSet::new(alloc),
         }
     }
 
@@ -85,7 +82,7 @@ impl<'a> Muxes<'a> {
         let name = name_of(self.alloc, sink)?;
         let arcs = List::new(self.alloc);
         self.muxes.push(Mux { sink: name, arcs })?;
-        forget_all(self.alloc, &mut self.sources);
+        self.sources.clear();
         Ok(())
     }
 

@@ -7,8 +7,11 @@ use std::alloc::{AllocError, Global};
 use std::marker::Model;
 use text_cut::PatternBit;
 
+/// The most bits of a pattern.
+pub(crate) const MOST_BITS: usize = 32;
+
 /// The bits of a pattern in the order in which a line names them. Four are kept inline.
-#[derive(Drop)]
+#[derive(Debug, Drop)]
 pub struct Pattern {
     bits: SmallVec<PatternBit, 4>,
 }

@@ -3,6 +3,7 @@
 ghost use Rattle.std.specs.Prelude.{◌≡◌, ◌∷◌, ◌++◌, map, option_map, IfOk, true};
 ghost use Rattle.texts.specs.Names.{is_name};
 ghost use Rattle.grammars.specs.BitsDb as db;
+ghost use Rattle.bits_db.specs.NamedBits.{named_bits_of};
 
 use super::{Arc, EnumOption, Pattern};
 use rr_ids::{Name, NameError};
@@ -53,6 +54,25 @@ fn bits_of(alloc: Global, mut words: Words<'_>) -> Result<Option<Pattern>, Alloc
     pattern_of(alloc, first.text, words)
 }
 
+// The name and the pattern of a row `NAME BITS`, where it is one.
+fn named_bits(
+    alloc: Global,
+    name: &[u8],
+    bits: Words<'_>,
+) -> Result<Option<(Name, Pattern)>, AllocError>
+    ensures { IfOk result (λ found. found ≡ named_bits_of name.now (map (λ w. w.text) bits.entry)) }
+{
+    let name = match Name::new(alloc, name) {
+        Ok(name) => name,
+        Err(NameError::BadName) => return Ok(None),
+        Err(NameError::Memory) => return Err(AllocError),
+    };
+    let Some(bits) = bits_of(alloc, bits)? else {
+        return Ok(None);
+    };
+    Ok(Some((name, bits)))
+}
+
 /// The arc of a row `SOURCE BITS`, where it is one.
 pub(crate) fn arc_of(
     alloc: Global,
@@ -61,15 +81,10 @@ pub(crate) fn arc_of(
 ) -> Result<Option<Arc>, AllocError>
     ensures { IfOk result (λ found. found ≡ db.arc_of (source.now ∷ map (λ w. w.text) bits.entry)) }
 {
-    let source = match Name::new(alloc, source) {
-        Ok(source) => source,
-        Err(NameError::BadName) => return Ok(None),
-        Err(NameError::Memory) => return Err(AllocError),
-    };
-    let Some(bits) = bits_of(alloc, bits)? else {
-        return Ok(None);
-    };
-    Ok(Some(Arc { source, bits }))
+    match named_bits(alloc, source, bits)? {
+        Some((source, bits)) => Ok(Some(Arc { source, bits })),
+        None => Ok(None),
+    }
 }
 
 /// The option of a row `VALUE BITS`, where it is one.
@@ -80,15 +95,10 @@ pub(crate) fn option_of(
 ) -> Result<Option<EnumOption>, AllocError>
     ensures { IfOk result (λ found. found ≡ db.option_of (value.now ∷ map (λ w. w.text) bits.entry)) }
 {
-    let value = match Name::new(alloc, value) {
-        Ok(value) => value,
-        Err(NameError::BadName) => return Ok(None),
-        Err(NameError::Memory) => return Err(AllocError),
-    };
-    let Some(bits) = bits_of(alloc, bits)? else {
-        return Ok(None);
-    };
-    Ok(Some(EnumOption { value, bits }))
+    match named_bits(alloc, value, bits)? {
+        Some((value, bits)) => Ok(Some(EnumOption { value, bits })),
+        None => Ok(None),
+    }
 }
 
 /// The name of bytes that are one.

@@ -1,19 +1,19 @@
 //! The words of a reading.
 
-ghost use Rattle.std.specs.Prelude.{◌≡◌, ◌∷◌, ◌++◌, [], map, true, OnOk};
+ghost use Rattle.std.specs.Prelude.{◌≡◌, ◌∷◌, ◌++◌, [], map, true, IsSome, OnOk};
 ghost use Rattle.words.specs.OrMemory.{OrMemory};
 ghost use Rattle.texts.specs.Names.{is_name};
-ghost use Rattle.grammars.specs.BitsDb.{bits_of, bits_fault, bad_line_if, has_word, unless_fault};
+ghost use Rattle.grammars.specs.BitsDb.{bits_of, bits_fault, bad_line_if, has_word, last_of, unless_fault};
 ghost use Rattle.grammars.specs.RowByRow.{with_bits};
 ghost use Rattle.bits_db.specs.Faults.{fault_of};
 ghost use Rattle.bits_db.specs.Readings.{KnowsItsWords};
 
-use super::muxes::MOST_BITS;
+use super::pattern::MOST_BITS;
 use super::row::{name_of, pattern_of};
 use super::{DbError, WordSetting};
 use rr_ids::{Limit, List};
 use std::alloc::Global;
-use std::collections::HashSet;
+use std::collections::BTreeSet;
 use text_cut::Words;
 
 /// The words that were read so far, of which the last may get more bits. Contracts see the fields, as of muxes.
@@ -21,7 +21,7 @@ use text_cut::Words;
 pub(crate) struct WordSettings<'a> {
     alloc: Global,
     settings: List<WordSetting>,
-    names: HashSet<&'a [u8]>,
+    names: BTreeSet<&'a [u8]>,
 }
 
 impl<'a> WordSettings<'a> {
@@ -33,7 +33,7 @@ impl<'a> WordSettings<'a> {
         WordSettings {
             alloc,
             settings: List::new(alloc),
-            names: HashSet::new(alloc),
+            names: BTreeSet::new(alloc),
         }
     }
 
@@ -50,6 +50,7 @@ impl<'a> WordSettings<'a> {
         requires name { is_name name.now ≡ true }
         requires known { KnowsItsWords self.old }
         ensures words { OrMemory (λ _. self.new.settings) fault_of result (unless_fault (bad_line_if number (has_word self.old.settings name.now)) (self.old.settings ++ record { name = name.now; bits = [] } ∷ [])) }
+        ensures open { OnOk result (IsSome (last_of self.new.settings)) }
         ensures known { OnOk result (KnowsItsWords self.new) }
     {
         if !self.names.insert(name)? {
@@ -68,9 +69,11 @@ impl<'a> WordSettings<'a> {
         first: &'a [u8],
         words: Words<'a>,
     ) -> Result<(), DbError>
-        requires { KnowsItsWords self.old }
+        requires open { IsSome (last_of self.old.settings) }
+        requires known { KnowsItsWords self.old }
         ensures words { let bits = bits_of (first.now ∷ map (λ w. w.text) words.entry) in
             OrMemory (λ _. self.new.settings) fault_of result (unless_fault (bits_fault number bits) (with_bits self.old.settings bits)) }
+        ensures open { OnOk result (IsSome (last_of self.new.settings)) }
         ensures known { OnOk result (KnowsItsWords self.new) }
     {
         let Some(bits) = pattern_of(self.alloc, first, words)? else {
@@ -80,7 +83,7 @@ impl<'a> WordSettings<'a> {
             return Err(DbError::TooLarge(Limit::Pattern));
         }
         let Some(mut setting) = self.settings.pop() else {
-            return Ok(());
+            return Err(DbError::BadLine(number));
         };
         setting.bits.push(bits)?;
         self.settings.push(setting)?;

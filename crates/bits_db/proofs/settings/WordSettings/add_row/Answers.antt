@@ -5,7 +5,7 @@ use Rattle.records.specs.Database.{WordSetting}
 use Rattle.grammars.specs.BitsDb.{most_bits}
 use Rattle.grammars.specs.RowByRow.{with_bits}
 use Rattle.grammars.proofs.Lasts.{with_last_pushed}
-use Rattle.bits_db.proofs.Entries.{new_bits}
+use Rattle.bits_db.proofs.Entries.{new_bits, last_is_there}
 use Rattle.bits_db.proofs.settings.WordSettings.add_row.Goals as goal
 
 pub returns-clause-words : goal.returns-clause-words
@@ -26,3 +26,6 @@ returns-clause-words c =
     let counted = c.len.ensures in
     let short : nat_lt most_bits (length bits) ≡ false = grind (arith, nat_tests) in
     new_bits c.args.number c.args.self.now.settings _ bits (sym c.in-Some.is ∙ c.in_ok-bits.ensures) short ∙ ap (λ (ws : List WordSetting). Ok ws) all
+
+pub returns-clause-open : goal.returns-clause-open
+returns-clause-open c = last_is_there _ _ _ c.in_ok-push-2.ensures.ok
