@@ -10,7 +10,7 @@ ghost use Rattle.cell_profile.specs.Takes.{take_for};
 
 use crate::Take;
 use crate::takes::{Purpose, read_take};
-use json_values::FormError;
+use json_values::{FormError, elements, name_or_empty, named, pair};
 use rr_ids::{List, Name};
 use serde_json::Value;
 use std::alloc::Global;
@@ -54,7 +54,7 @@ fn case_value(alloc: Global, has_setting: bool, text: &str) -> Result<Option<Nam
     ensures { Reads (λ value. value) result (choices.case_value has_setting text.now) }
 {
     if has_setting {
-        return Ok(Some(json_values::named(alloc, text.as_bytes())?));
+        return Ok(Some(named(alloc, text.as_bytes())?));
     }
     if text.is_empty() {
         return Ok(None);
@@ -72,9 +72,11 @@ fn read_case(
     ensures { Reads (λ case. case) result
         (choices.case_in has_setting (take_for purpose) (view value.now)) }
 {
-    let (value, taken) = json_values::pair(value)?;
-    let value = case_value(alloc, has_setting, json_values::text(value)?)?;
-    let take = read_take(alloc, purpose, json_values::text(taken)?.as_bytes())?;
+    let (value, taken) = pair(value).ok_or(FormError::Unfit)?;
+    let value = value.as_str().ok_or(FormError::Unfit)?;
+    let value = case_value(alloc, has_setting, value)?;
+    let taken = taken.as_str().ok_or(FormError::Unfit)?;
+    let take = read_take(alloc, purpose, taken.as_bytes())?;
     Ok(Case { value, take })
 }
 
@@ -107,10 +109,11 @@ fn is_case_count(has_setting: bool, count: usize) -> bool
 fn read_choice(alloc: Global, purpose: Purpose, value: &Value) -> Result<Choice, FormError>
     ensures { Reads (λ choice. choice) result (choices.choice_in (take_for purpose) (view value.now)) }
 {
-    let (setting, values) = json_values::pair(value)?;
-    let setting = json_values::name_or_empty(alloc, setting)?;
+    let (setting, values) = pair(value).ok_or(FormError::Unfit)?;
+    let setting = name_or_empty(alloc, setting)?;
     let has_setting = setting.is_some();
-    let cases = read_cases(alloc, purpose, has_setting, json_values::elements(values)?)?;
+    let values = elements(values).ok_or(FormError::Unfit)?;
+    let cases = read_cases(alloc, purpose, has_setting, values)?;
     if !is_case_count(has_setting, cases.len()) {
         return Err(FormError::Unfit);
     }
@@ -127,5 +130,5 @@ pub(crate) fn choice_member(
     ensures { Reads (λ choice. choice) result
         (member_in name.now (choices.choice_in (take_for purpose)) (view object.now)) }
 {
-    read_choice(alloc, purpose, json_values::member(object, name)?)
+    read_choice(alloc, purpose, object.get(name).ok_or(FormError::Unfit)?)
 }

@@ -37,7 +37,7 @@ impl FromJson for Join {
 
     #[tactic(auto, unfolding(json_forms::specs::Kinds::join_in))]
     fn from_json(alloc: Global, value: &Value) -> Result<Join, FormError> {
-        let (tile, sink, source) = triple(value)?;
+        let (tile, sink, source) = triple(value).ok_or(FormError::Unfit)?;
         Ok(Join {
             tile: name(alloc, tile)?,
             sink: name(alloc, sink)?,
@@ -68,7 +68,7 @@ impl FromJson for Require {
 
     #[tactic(auto, unfolding(json_forms::specs::Kinds::require_in))]
     fn from_json(alloc: Global, value: &Value) -> Result<Require, FormError> {
-        let (setting, wanted) = pair(value)?;
+        let (setting, wanted) = pair(value).ok_or(FormError::Unfit)?;
         Ok(Require {
             setting: name(alloc, setting)?,
             value: name(alloc, wanted)?,

@@ -13,7 +13,7 @@ ghost use Rattle.cell_profile.specs.Faults.{fault_of};
 
 use crate::judges::{PadJudge, SliceJudge};
 use crate::{Join, PadKind, ProfileError, SliceKind};
-use json_values::{AnyForm, FormError, read_list};
+use json_values::{AnyForm, FormError, judged_list_member};
 use rr_ids::{List, Name, Rules, Text};
 use serde_json::Value;
 use std::alloc::Global;
@@ -56,7 +56,7 @@ fn names(alloc: Global, file: &Value, member: &str) -> Result<List<Name>, Profil
         (list_read member.now name_in any_form (view file.now)) }
 {
     let mut judge = AnyForm;
-    Ok(read_list::<Name, AnyForm>(alloc, file, member, &mut judge)?)
+    Ok(judged_list_member::<Name, AnyForm>(alloc, file, member, &mut judge)?)
 }
 
 // The connections that are always there.
@@ -65,7 +65,7 @@ fn joins(alloc: Global, file: &Value) -> Result<List<Join>, ProfileError>
         (list_read (codes "joins") join_in any_form (view file.now)) }
 {
     let mut judge = AnyForm;
-    Ok(read_list::<Join, AnyForm>(alloc, file, "joins", &mut judge)?)
+    Ok(judged_list_member::<Join, AnyForm>(alloc, file, "joins", &mut judge)?)
 }
 
 // The kinds of slices.
@@ -78,7 +78,7 @@ fn slices(
         (list_read (codes "slices") slice_in (slice_verdict other_chips.now) (view file.now)) }
 {
     let mut judge = SliceJudge::new(alloc, other_chips);
-    Ok(read_list::<SliceKind, SliceJudge>(alloc, file, "slices", &mut judge)?)
+    Ok(judged_list_member::<SliceKind, SliceJudge>(alloc, file, "slices", &mut judge)?)
 }
 
 // The kinds of pads, which stand behind those of slices.
@@ -92,7 +92,7 @@ fn pads(
         (list_read (codes "pads") pad_in (pad_verdict other_chips.now slices.now) (view file.now)) }
 {
     let mut judge = PadJudge::new(alloc, other_chips, slices)?;
-    Ok(read_list::<PadKind, PadJudge>(alloc, file, "pads", &mut judge)?)
+    Ok(judged_list_member::<PadKind, PadJudge>(alloc, file, "pads", &mut judge)?)
 }
 
 // The profile that an object is.

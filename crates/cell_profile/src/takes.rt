@@ -1,5 +1,6 @@
 //! What a cell takes.
 
+ghost use Rattle.std.specs.Prelude.{◌≡◌, option_map};
 ghost use Rattle.json_forms.specs.Choices as choices;
 ghost use Rattle.json_values.specs.Reads.{Reads};
 ghost use Rattle.cell_profile.specs.Takes.{take_of, take_for};
@@ -67,15 +68,15 @@ fn clock_take(alloc: Global, text: &[u8]) -> Result<Take, FormError>
     }
 }
 
-// The mode of a pad.
-fn mode_take(text: &[u8]) -> Result<Take, FormError>
-    ensures { Reads take_of result (choices.mode_take text.now) }
+// The mode of a pad; none where the text is no mode.
+fn mode_take(text: &[u8]) -> Option<Take>
+    ensures { option_map take_of result ≡ choices.mode_take text.now }
 {
     match text {
-        b"off" => Ok(Take::Off),
-        b"in" => Ok(Take::In),
-        b"out" => Ok(Take::Out),
-        _ => Err(FormError::Unfit),
+        b"off" => Some(Take::Off),
+        b"in" => Some(Take::In),
+        b"out" => Some(Take::Out),
+        _ => None,
     }
 }
 
@@ -87,6 +88,6 @@ pub(crate) fn read_take(alloc: Global, purpose: Purpose, text: &[u8]) -> Result<
         Purpose::Input => input_take(alloc, text),
         Purpose::Set => set_take(alloc, text),
         Purpose::Clock => clock_take(alloc, text),
-        Purpose::Mode => mode_take(text),
+        Purpose::Mode => mode_take(text).ok_or(FormError::Unfit),
     }
 }

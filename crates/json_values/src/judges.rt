@@ -10,8 +10,11 @@ use std::alloc::AllocError;
 /// How an element stands behind those before it.
 #[derive(Clone, Copy, Debug)]
 pub enum Verdict {
+    /// It keeps each rule, and is the next element of the list.
     Fits,
+    /// It breaks a rule.
     Misfits,
+    /// With it a limit is passed.
     Exceeds(Limit),
 }
 

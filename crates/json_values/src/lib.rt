@@ -1,8 +1,7 @@
 //! Parts of JSON values: what a file's bytes are read as, and the names, numbers and lists in it.
 #![tactic(auto)]
 
-ghost use Rattle.std.specs.Prelude.{map, ◌≤◌, IfOk};
-ghost use Rattle.serde_json.specs.Find.{get, as_str};
+ghost use Rattle.std.specs.Prelude.{◌≡◌, ◌≤◌, map, option_map, IfSome};
 ghost use Rattle.serde_json.specs.View.{view};
 ghost use Rattle.json_forms.specs.Values.{reading_of, list_in, if_name, name_in, whole_in, member_in};
 ghost use Rattle.json_forms.specs.Parts.{name_or_empty_in};
@@ -13,8 +12,8 @@ mod lists;
 mod members;
 
 pub use judges::{AnyForm, Judge, Verdict};
-pub use lists::{FromJson, list, list_member_as, member_as, pair, triple};
-pub use members::{ListError, list_member, read_elements, read_list};
+pub use lists::{FromJson, elements_member, list_as, list_member_as, member_as, pair, triple};
+pub use members::{ListError, judged_elements, judged_list_member};
 use rr_ids::{Name, NameError};
 use serde_json::Value;
 use std::alloc::{AllocError, AllocFailed, Global};
@@ -24,6 +23,7 @@ use std::alloc::{AllocError, AllocFailed, Global};
 pub enum FormError {
     /// The bytes or the value are of another form.
     Unfit,
+    /// There was no memory for what is given.
     Memory,
 }
 
@@ -74,60 +74,46 @@ pub fn named(alloc: Global, bytes: &[u8]) -> Result<Name, FormError>
     }
 }
 
-/// The name that a value is.
+/// The name that a value is; `Unfit` where it is no text, or a text that isn't a name.
 pub fn name(alloc: Global, value: &Value) -> Result<Name, FormError>
     ensures { Reads (λ name. name) result (name_in (view value.now)) }
 {
-    named(alloc, text(value)?.as_bytes())
+    named(alloc, value.as_str().ok_or(FormError::Unfit)?.as_bytes())
 }
 
-/// The name that a value is, or nothing for the empty text.
+/// The name that a value is, or nothing for the empty text; `Unfit` where it is no text, or another that isn't a name.
 pub fn name_or_empty(alloc: Global, value: &Value) -> Result<Option<Name>, FormError>
     ensures { Reads (λ name. name) result (name_or_empty_in (view value.now)) }
 {
-    let text = text(value)?;
+    let text = value.as_str().ok_or(FormError::Unfit)?;
     if text.is_empty() {
         return Ok(None);
     }
     Ok(Some(named(alloc, text.as_bytes())?))
 }
 
-/// The text that a value is.
-pub fn text(value: &Value) -> Result<&str, FormError>
-    ensures { Reads (λ text. text.now) result (as_str (view value.now)) }
-{
-    value.as_str().ok_or(FormError::Unfit)
-}
-
-/// The whole number from 0 up to `most` that a value is.
-pub fn whole(value: &Value, most: u32) -> Result<u32, FormError>
-    ensures number { Reads (λ n. n) result (whole_in most (view value.now)) }
-    ensures within { IfOk result (λ n. n ≤ most) }
+/// The whole number from 0 up to `most` that a value is; `None` where it is no number, none that is whole, or a greater
+/// one.
+pub fn whole(value: &Value, most: u32) -> Option<u32>
+    ensures number { result ≡ whole_in most (view value.now) }
+    ensures within { IfSome result (λ n. n ≤ most) }
 {
     match value.as_u64() {
-        Some(number) if number <= u64::from(most) => Ok(number as u32),
-        _ => Err(FormError::Unfit),
+        Some(number) if number <= u64::from(most) => Some(number as u32),
+        _ => None,
     }
 }
 
-/// The elements of a value that is a list.
-pub fn elements(value: &Value) -> Result<&[Value], FormError>
-    ensures { Reads (λ values. map view values.now) result (list_in (view value.now)) }
+/// The elements of a value that is a list, in order; `None` where it is no list.
+pub fn elements(value: &Value) -> Option<&[Value]>
+    ensures { option_map (λ values. map view values.now) result ≡ list_in (view value.now) }
 {
-    match value.as_array() {
-        Some(values) => Ok(values.as_slice()),
-        None => Err(FormError::Unfit),
-    }
+    let values = value.as_array()?;
+    Some(values.as_slice())
 }
 
-/// The member of a name in a value that is an object.
-pub fn member<'a>(object: &'a Value, name: &str) -> Result<&'a Value, FormError>
-    ensures { Reads (λ value. view value.now) result (get name.now (view object.now)) }
-{
-    object.get(name).ok_or(FormError::Unfit)
-}
-
-/// The name, or nothing for the empty text, that the member of a name is.
+/// The name, or nothing for the empty text, that the member of a name is; `Unfit` where the value is no object or has no
+/// such member, and where the member is no text, or another that isn't a name.
 pub fn name_or_empty_member(
     alloc: Global,
     object: &Value,
@@ -135,5 +121,5 @@ pub fn name_or_empty_member(
 ) -> Result<Option<Name>, FormError>
     ensures { Reads (λ it. it) result (member_in name.now name_or_empty_in (view object.now)) }
 {
-    name_or_empty(alloc, member(object, name)?)
+    name_or_empty(alloc, object.get(name).ok_or(FormError::Unfit)?)
 }

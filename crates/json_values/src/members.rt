@@ -1,16 +1,14 @@
-//! Members of an object that are lists, read element by element.
+//! Lists whose elements are judged one behind another, and members of an object that are such.
 
 ghost use Rattle.std.specs.Prelude.{◌≡◌, ◌∷◌, ◌++◌, [], map, IfOk, OnOk, IfSome};
 ghost use Rattle.serde_json.specs.View.{view};
 ghost use Rattle.words.specs.OrMemory.{OrMemory};
-ghost use Rattle.json_forms.specs.Values.{member_in, list_in};
 ghost use Rattle.json_forms.specs.Faults as form;
 ghost use Rattle.json_forms.specs.Profile.{element_key as element_key_spec, elements_read, list_read};
-ghost use Rattle.json_values.specs.Reads.{Reads};
 ghost use Rattle.json_values.specs.Elements.{element_read};
 ghost use Rattle.json_values.specs.Faults.{list_fault};
 
-use crate::{FormError, FromJson, Judge, Verdict, elements, member};
+use crate::{FormError, FromJson, Judge, Verdict, elements_member};
 use rr_ids::{Limit, List, Text};
 use serde_json::Value;
 use std::alloc::{AllocError, AllocFailed, Global};
@@ -22,6 +20,7 @@ pub enum ListError {
     BadShape(Text),
     /// A limit is passed.
     TooLarge(Limit),
+    /// There was no memory for what is given.
     Memory,
 }
 
@@ -91,9 +90,10 @@ fn read_element<T: FromJson, J: Judge<T>>(
     }
 }
 
-/// What the elements of the list in the member `name` are read as, each judged behind those before it. Of an element
-/// with another form or that misfits the error has the key, as `slices.0`.
-pub fn read_elements<T: FromJson, J: Judge<T>>(
+/// The list of what the elements of the list in the member `name` stand for, each judged behind those before it; else the
+/// fault of the first that has another form, misfits or passes a limit. Of the first two the error has the key, as
+/// `slices.0`.
+pub fn judged_elements<T: FromJson, J: Judge<T>>(
     alloc: Global,
     name: &str,
     judge: &mut J,
@@ -110,17 +110,9 @@ pub fn read_elements<T: FromJson, J: Judge<T>>(
     Ok(list)
 }
 
-/// The elements of the list in the member of a name; `Unfit` where the value is no object or the member no list.
-pub fn list_member<'a>(object: &'a Value, name: &str) -> Result<&'a [Value], FormError>
-    ensures { Reads (λ values. map view values.now) result
-        (member_in name.now list_in (view object.now)) }
-{
-    elements(member(object, name)?)
-}
-
-/// What the member of a name is read as that is a list, each element judged behind those before it. The error has the
-/// key of what is faulty: the member's name, or that of its first faulty element.
-pub fn read_list<T: FromJson, J: Judge<T>>(
+/// As `judged_elements`, of the member of a name in an object; `BadShape` with the name where the value is no object or
+/// has no such member, and where the member is no list.
+pub fn judged_list_member<T: FromJson, J: Judge<T>>(
     alloc: Global,
     object: &Value,
     name: &str,
@@ -130,9 +122,8 @@ pub fn read_list<T: FromJson, J: Judge<T>>(
     ensures { OrMemory (λ it. it) list_fault result
         (list_read name.now T.value_in (J.verdict judge.old) (view object.now)) }
 {
-    match list_member(object, name) {
-        Ok(values) => read_elements::<T, J>(alloc, name, judge, values),
-        Err(FormError::Unfit) => Err(ListError::BadShape(Text::new(alloc, name.as_bytes())?)),
-        Err(FormError::Memory) => Err(ListError::Memory),
-    }
+    let Some(values) = elements_member(object, name) else {
+        return Err(ListError::BadShape(Text::new(alloc, name.as_bytes())?));
+    };
+    judged_elements::<T, J>(alloc, name, judge, values)
 }

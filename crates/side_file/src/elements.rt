@@ -34,7 +34,7 @@ impl Model for Placed {
 fn domain(value: &Value) -> Result<Domain, FormError>
     ensures { Reads domain_of result (domain_in (view value.now)) }
 {
-    match whole(value, 2)? {
+    match whole(value, 2).ok_or(FormError::Unfit)? {
         0 => Ok(Domain::D0),
         1 => Ok(Domain::D1),
         _ => Ok(Domain::D2),
@@ -48,7 +48,7 @@ impl FromJson for Placed {
 
     #[tactic(auto, unfolding(side_form::specs::Placings::placed_in))]
     fn from_json(alloc: Global, value: &Value) -> Result<Placed, FormError> {
-        match elements(value)? {
+        match elements(value).ok_or(FormError::Unfit)? {
             [cell, tile, kind, copy] => Ok(Placed {
                 name: name(alloc, cell)?,
                 tile: name(alloc, tile)?,
@@ -83,7 +83,7 @@ impl FromJson for Triple {
 
     #[tactic(auto, unfolding(side_form::specs::Placings::names_in))]
     fn from_json(alloc: Global, value: &Value) -> Result<Triple, FormError> {
-        let (first, second, third) = triple(value)?;
+        let (first, second, third) = triple(value).ok_or(FormError::Unfit)?;
         Ok(Triple {
             first: name(alloc, first)?,
             second: name(alloc, second)?,
@@ -114,10 +114,10 @@ impl FromJson for Voter {
 
     #[tactic(auto, unfolding(side_form::specs::Placings::voter_in))]
     fn from_json(alloc: Global, value: &Value) -> Result<Voter, FormError> {
-        let (slice, table) = pair(value)?;
+        let (slice, table) = pair(value).ok_or(FormError::Unfit)?;
         Ok(Voter {
             slice: name(alloc, slice)?,
-            table: whole(table, 65_535)? as u16,
+            table: whole(table, 65_535).ok_or(FormError::Unfit)? as u16,
         })
     }
 }

@@ -11,7 +11,9 @@ ghost use Rattle.side_file.specs.Faults.{fault_of};
 
 use crate::checks::checked;
 use crate::{Placed, Side, SideError, Triple, Voter};
-use json_values::{AnyForm, FormError, ListError, list_member, read_elements, read_list};
+use json_values::{
+    AnyForm, FormError, ListError, elements_member, judged_elements, judged_list_member,
+};
 use rr_ids::{List, Text};
 use serde_json::Value;
 use std::alloc::Global;
@@ -22,7 +24,7 @@ fn cells(alloc: Global, file: &Value, member: &str) -> Result<List<Placed>, List
         (list_read member.now placed_in any_form (view file.now)) }
 {
     let mut judge = AnyForm;
-    read_list::<Placed, AnyForm>(alloc, file, member, &mut judge)
+    judged_list_member::<Placed, AnyForm>(alloc, file, member, &mut judge)
 }
 
 // The triples that a member lists.
@@ -31,19 +33,18 @@ fn triples(alloc: Global, file: &Value, member: &str) -> Result<List<Triple>, Li
         (list_read member.now names_in any_form (view file.now)) }
 {
     let mut judge = AnyForm;
-    read_list::<Triple, AnyForm>(alloc, file, member, &mut judge)
+    judged_list_member::<Triple, AnyForm>(alloc, file, member, &mut judge)
 }
 
 // The triples of clocks, of which there is one at most.
 fn clocks(alloc: Global, file: &Value) -> Result<List<Triple>, ListError>
     ensures { OrMemory (λ triples. triples) list_fault result (clocks_read (view file.now)) }
 {
-    match list_member(file, "clocks") {
-        Ok(values) if values.len() <= 1 => {
+    match elements_member(file, "clocks") {
+        Some(values) if values.len() <= 1 => {
             let mut judge = AnyForm;
-            read_elements::<Triple, AnyForm>(alloc, "clocks", &mut judge, values)
+            judged_elements::<Triple, AnyForm>(alloc, "clocks", &mut judge, values)
         }
-        Err(FormError::Memory) => Err(ListError::Memory),
         _ => Err(ListError::BadShape(Text::new(alloc, b"clocks")?)),
     }
 }
@@ -53,7 +54,7 @@ fn voters(alloc: Global, file: &Value) -> Result<List<Voter>, ListError>
         (list_read (codes "voters") voter_in any_form (view file.now)) }
 {
     let mut judge = AnyForm;
-    read_list::<Voter, AnyForm>(alloc, file, "voters", &mut judge)
+    judged_list_member::<Voter, AnyForm>(alloc, file, "voters", &mut judge)
 }
 
 // The lists of a side file by their forms.

@@ -1,8 +1,6 @@
 -- A tile and its place.
-use Rattle.std.specs.Prelude.{ℕ, Option, Result, Ok, Err, if◌then◌else◌}
-use Rattle.records.specs.Limits.{Place}
+use Rattle.std.specs.Prelude.{ℕ, Option, Some, None, if◌then◌else◌}
 use Rattle.records.specs.Grid.{Tile}
-use Rattle.json_forms.specs.Faults.{FormFault, TooLarge}
 use Rattle.json_forms.specs.Tiles.{place_fits}
 
 -- the tile at a place
@@ -10,5 +8,5 @@ abbrev pub with_place : Option (ℕ × ℕ) → Tile → Tile
 with_place place tile = record tile { place = place }
 
 -- a place that a grid may have
-abbrev pub place_or_fault : Option (ℕ × ℕ) → Result (Option (ℕ × ℕ)) FormFault
-place_or_fault place = if place_fits place then Ok place else Err (TooLarge Place)
+abbrev pub place_if_fits : Option (ℕ × ℕ) → Option (Option (ℕ × ℕ))
+place_if_fits place = if place_fits place then Some place else None

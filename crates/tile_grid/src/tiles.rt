@@ -1,16 +1,16 @@
 //! Tiles.
 
-ghost use Rattle.std.specs.Prelude.{◌≡◌, ◌≤◌, IfOk};
+ghost use Rattle.std.specs.Prelude.{◌≡◌, ◌≤◌, IfSome};
 ghost use Rattle.serde_json.specs.View.{view};
 ghost use Rattle.json_forms.specs.Tiles.{most_in_tile, tile_number_in, tile_in, tile_of};
 ghost use Rattle.json_forms.specs.Places.{place_of};
 ghost use Rattle.json_values.specs.Reads.{Reads};
 ghost use Rattle.words.specs.OrMemory.{OrMemory};
-ghost use Rattle.tile_grid.specs.Placed.{with_place, place_or_fault};
+ghost use Rattle.tile_grid.specs.Placed.{with_place, place_if_fits};
 ghost use Rattle.tile_grid.specs.Faults.{fault_of};
 
 use crate::{GridError, places};
-use json_values::FormError;
+use json_values::{FormError, member_as};
 use rr_ids::{Limit, Name, Text};
 use serde_json::Value;
 use std::alloc::Global;
@@ -44,12 +44,12 @@ impl Model for Tile {
 // The greatest number of a tile.
 const MOST_IN_TILE: u32 = 2_147_483_647;
 
-// A number of a tile.
-fn number(tile: &Value, name: &str) -> Result<u32, FormError>
-    ensures number { Reads (λ n. n) result (tile_number_in name.now (view tile.now)) }
-    ensures small { IfOk result (λ n. n ≤ most_in_tile) }
+// A number of a tile; none where it is missing, not whole or too great.
+fn number(tile: &Value, name: &str) -> Option<u32>
+    ensures number { result ≡ tile_number_in name.now (view tile.now) }
+    ensures small { IfSome result (λ n. n ≤ most_in_tile) }
 {
-    json_values::whole(json_values::member(tile, name)?, MOST_IN_TILE)
+    json_values::whole(tile.get(name)?, MOST_IN_TILE)
 }
 
 // The tile that a member of the file is, but for its place.
@@ -60,25 +60,25 @@ fn unplaced(alloc: Global, name: &str, tile: &Value) -> Result<Tile, FormError>
 {
     Ok(Tile {
         name: json_values::named(alloc, name.as_bytes())?,
-        kind: json_values::name(alloc, json_values::member(tile, "type")?)?,
+        kind: member_as::<Name>(alloc, tile, "type")?,
         place: None,
-        cols: number(tile, "cols")?,
-        rows: number(tile, "rows")?,
-        start_frame: number(tile, "start_frame")?,
-        start_bit: number(tile, "start_bit")?,
+        cols: number(tile, "cols").ok_or(FormError::Unfit)?,
+        rows: number(tile, "rows").ok_or(FormError::Unfit)?,
+        start_frame: number(tile, "start_frame").ok_or(FormError::Unfit)?,
+        start_bit: number(tile, "start_bit").ok_or(FormError::Unfit)?,
     })
 }
 
-// The place of a tile by its name.
-fn place(name: &str) -> Result<Option<(u8, u8)>, GridError>
-    ensures { OrMemory (λ place. place) fault_of result (place_or_fault (place_of name.now)) }
+// The place of a tile by its name, or that it has none; nothing where its row or column is above 255.
+fn place(name: &str) -> Option<Option<(u8, u8)>>
+    ensures { result ≡ place_if_fits (place_of name.now) }
 {
     let Some((row, col)) = places::place_of(name.as_bytes()) else {
-        return Ok(None);
+        return Some(None);
     };
     match (u8::try_from(row), u8::try_from(col)) {
-        (Ok(row), Ok(col)) => Ok(Some((row, col))),
-        _ => Err(GridError::TooLarge(Limit::Place)),
+        (Ok(row), Ok(col)) => Some(Some((row, col))),
+        _ => None,
     }
 }
 
@@ -95,6 +95,6 @@ pub(crate) fn read_tile(alloc: Global, name: &str, value: &Value) -> Result<Tile
         }
         Err(FormError::Memory) => return Err(GridError::Memory),
     };
-    tile.place = place(name)?;
+    tile.place = place(name).ok_or(GridError::TooLarge(Limit::Place))?;
     Ok(tile)
 }

@@ -1,7 +1,7 @@
 use Rattle.std.proofs.Common.{◌≡◌}
 use Rattle.serde_json.specs.View.{view}
 use Rattle.json_values.proofs.InTurn.{IsReadUpTo}
-use Rattle.json_values.proofs.members.read_elements.Given as goal
+use Rattle.json_values.proofs.members.judged_elements.Given as goal
 
 -- the judge, who judges as at first, knows the elements so far
 abbrev pub invariant-loop-value : goal.invariant-loop-value

@@ -1,7 +1,7 @@
 use Rattle.std.proofs.Common.{refl, ◌∙◌}
 use Rattle.serde_json.specs.View.{view}
 use Rattle.json_values.proofs.InTurn.{none_yet, one_further}
-use Rattle.json_values.proofs.members.read_elements.Goals as goal
+use Rattle.json_values.proofs.members.judged_elements.Goals as goal
 
 pub loop-value-init : goal.loop-value-init
 loop-value-init g c =

@@ -3,7 +3,7 @@ use Rattle.serde_json.specs.View.{view}
 use Rattle.json_forms.specs.Each.{each}
 use Rattle.json_forms.specs.Parts.{list_of}
 use Rattle.json_forms.proofs.OneByOne.{joined}
-use Rattle.json_values.proofs.lists.list.Given as goal
+use Rattle.json_values.proofs.lists.list_as.Given as goal
 
 -- the values so far, and what is left
 abbrev pub invariant-loop-element : goal.invariant-loop-element
