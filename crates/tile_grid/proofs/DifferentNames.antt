@@ -1,13 +1,13 @@
--- A set of the names of a list has as many names as there are different ones in the list.
-use Rattle.std.proofs.Common.{◌≡◌, ℕ, ◌+◌, ◌<◌, List, [], ◌∷◌, ◌++◌, length, map, take, get_or, Bool, true, false, cond, ◌||◌, bytes_eq, nat_cmp, refl, ap, sym, ◌∙◌}
+-- A set that lends the names of a list has as many names as there are different ones in the list.
+use Rattle.std.proofs.Common.{◌≡◌, ℕ, ◌+◌, ◌<◌, List, [], ◌∷◌, ◌++◌, length, map, take, get_or, Bool, true, false, cond, ◌||◌, bytes_eq, nat_cmp, refl, ap, sym, ◌∙◌, Bor, Ordering, Less}
 use Rattle.std.specs.Cmp.Lexicographic.{slice_cmp}
-use Rattle.std.specs.List.{list_any}
+use Rattle.std.specs.List.{list_any, AllByRecursion}
 use Rattle.std.specs.List.Sorted.{IsStrictlySortedBy}
 use Rattle.std.specs.Ordering.{eq_by_cmp}
 use Rattle.std.specs.BTreeMap.{is_at}
 use Rattle.std.specs.Set.{is_member, distinct_count}
 use Rattle.std.proofs.lemmas.Cmp.{nat_list_eq_equiv}
-use Rattle.std.proofs.lemmas.List.{take_more, map-append}
+use Rattle.std.proofs.lemmas.List.{take_more, map-append, length-map}
 use Rattle.std.proofs.lemmas.List.Folds.{list_any-append}
 use Rattle.std.proofs.lemmas.Map.Keys.{IsDistinct-from_sorted}
 use Rattle.std.proofs.lemmas.Map.Made.{length-from_keys}
@@ -18,11 +18,42 @@ use Rattle.records.specs.Grid.{Tile}
 ties : eq_by_cmp (slice_cmp nat_cmp) ≡ bytes_eq
 ties = λ i a b. is_eq-slice_cmp a b i
 
-pub as_many : (keys names : List (List ℕ)) → IsStrictlySortedBy (slice_cmp nat_cmp) keys
-    → ((q : List ℕ) → list_any (is_at (slice_cmp nat_cmp q)) keys ≡ is_member bytes_eq names q) → length keys ≡ distinct_count bytes_eq names
-as_many keys names sorted same =
-    length-from_keys nat_list_eq_equiv keys names (rw (← ties) (IsDistinct-from_sorted (slice_cmp nat_cmp) keys sorted))
-    (λ q. ap (λ eq. is_member eq keys q) (sym ties) ∙ same q)
+as_many : (names all : List (List ℕ)) → IsStrictlySortedBy (slice_cmp nat_cmp) names → ((q : List ℕ) → is_member bytes_eq names q ≡ is_member bytes_eq all q)
+    → length names ≡ distinct_count bytes_eq all
+as_many names all sorted same = length-from_keys nat_list_eq_equiv names all (rw (← ties) (IsDistinct-from_sorted (slice_cmp nat_cmp) names sorted)) same
+
+-- ---- names that are lent
+
+-- the order of names that are lent
+abbrev pub lent_cmp : Bor (List ℕ) → Bor (List ℕ) → Ordering
+lent_cmp a b = slice_cmp nat_cmp a.now b.now
+
+-- the names, wherever they stand
+abbrev names_of : List (Bor (List ℕ)) → List (List ℕ)
+names_of keys = map (λ key. key.now) keys
+
+abbrev lent : List ℕ → Bor (List ℕ)
+lent name = record { ref_ptr = (0, 0); now = name }
+
+all_less : (name : List ℕ) (keys : List (Bor (List ℕ))) → AllByRecursion (λ key. slice_cmp nat_cmp name key.now ≡ Less) keys → AllByRecursion (λ n. slice_cmp nat_cmp name n ≡ Less) (names_of keys)
+all_less name [] less = tt
+all_less name (key ∷ keys) less = (less.0, all_less name keys less.1)
+
+names_sorted : (keys : List (Bor (List ℕ))) → IsStrictlySortedBy lent_cmp keys → IsStrictlySortedBy (slice_cmp nat_cmp) (names_of keys)
+unfolding IsStrictlySortedBy
+names_sorted [] sorted = tt
+names_sorted (key ∷ keys) sorted = (all_less key.now keys sorted.0, names_sorted keys sorted.1)
+
+name_there : (q : List ℕ) (keys : List (Bor (List ℕ))) → list_any (is_at (lent_cmp (lent q))) keys ≡ is_member bytes_eq (names_of keys) q
+name_there q [] = refl
+name_there q (key ∷ keys) = rw (is_eq-slice_cmp q key.now, name_there q keys) refl
+
+-- a set of names that are those of a list
+pub count_of_lent : (keys : List (Bor (List ℕ))) (names : List (List ℕ)) → IsStrictlySortedBy lent_cmp keys
+    → ((q : Bor (List ℕ)) → list_any (is_at (lent_cmp q)) keys ≡ is_member bytes_eq names q.now) → length keys ≡ distinct_count bytes_eq names
+count_of_lent keys names sorted same =
+    sym (length-map keys (λ (key : Bor (List ℕ)). key.now))
+    ∙ as_many (names_of keys) names (names_sorted keys sorted) (λ q. sym (name_there q keys) ∙ same (lent q))
 
 or_there : (b c : Bool) → cond b true c ≡ (c || (b || false))
 or_there true true = refl

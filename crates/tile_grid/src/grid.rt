@@ -13,7 +13,7 @@ ghost use Rattle.tile_grid.specs.Faults.{fault_of};
 use crate::tiles::read_tile;
 use crate::{GridError, Tile};
 use json_values::FormError;
-use rr_ids::{Limit, Name, Text, TileId, TypedVec};
+use rr_ids::{Limit, Text, TileId, TypedVec};
 use serde_json::{Map, Value};
 use std::alloc::{AllocError, Global};
 use std::collections::BTreeSet;
@@ -57,9 +57,9 @@ fn tiles_of(alloc: Global, file: &Map<String, Value>) -> Result<Vec<Tile>, GridE
 fn type_count(alloc: Global, tiles: &[Tile]) -> Result<usize, AllocError>
     ensures { IfOk result (λ count. count ≡ type_count_of tiles.now) }
 {
-    let mut kinds = BTreeSet::<Name>::new(alloc);
+    let mut kinds = BTreeSet::<&[u8]>::new(alloc);
     for tile in tiles {
-        kinds.insert(tile.kind.copy()?)?;
+        kinds.insert(tile.kind.bytes())?;
     }
     Ok(kinds.len())
 }
