@@ -29,7 +29,7 @@ name_ties a b =
     ties_then (slice_cmp nat_cmp a.0 b.0) (slice_cmp nat_cmp a.1 b.1) ∙ rw (text_ties a.0 b.0, text_ties a.1 b.1) refl
 
 -- there, or else there before
-or_there : (b c : Bool) → cond b true c ≡ (c || (b || false))
+pub or_there : (b c : Bool) → cond b true c ≡ (c || (b || false))
 or_there true true = refl
 or_there true false = refl
 or_there false true = refl

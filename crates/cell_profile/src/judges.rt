@@ -6,6 +6,7 @@ ghost use Rattle.json_forms.specs.Profile.{slice_verdict, pad_verdict};
 ghost use Rattle.cell_profile.specs.Known.{KnowsNames, KnowsShapes};
 
 use crate::known::{KindNames, Shapes, add_name, fits_shape, names_of_slices};
+use crate::name_set::NameSet;
 use crate::rules::{pad_stands, parts_fit, slice_stands};
 use crate::{PadKind, SliceKind};
 use json_values::{Judge, Verdict};
@@ -16,29 +17,29 @@ use std::alloc::{AllocError, Global};
 #[derive(Drop)]
 pub(crate) struct SliceJudge<'a> {
     alloc: Global,
-    other_chips: &'a [Name],
+    other_chips: NameSet<'a>,
     names: KindNames,
     shapes: Shapes,
 }
 
 impl<'a> SliceJudge<'a> {
     /// No kind was judged yet.
-    pub(crate) fn new(alloc: Global, other_chips: &'a [Name]) -> SliceJudge<'a>
-        ensures other_chips { result.other_chips ≡ other_chips.entry }
-        ensures names { KnowsNames result.names [] }
-        ensures shapes { KnowsShapes result.shapes [] }
+    pub(crate) fn new(alloc: Global, other_chips: &'a [Name]) -> Result<SliceJudge<'a>, AllocError>
+        ensures other_chips { IfOk result (λ it. it.other_chips ≡ other_chips.now) }
+        ensures names { IfOk result (λ it. KnowsNames it.names []) }
+        ensures shapes { IfOk result (λ it. KnowsShapes it.shapes []) }
     {
-        SliceJudge {
+        Ok(SliceJudge {
             alloc,
-            other_chips,
+            other_chips: NameSet::new(alloc, other_chips)?,
             names: KindNames::new(alloc),
             shapes: Shapes::new(alloc),
-        }
+        })
     }
 }
 
 impl<'a> Judge<SliceKind> for SliceJudge<'a> {
-    ghost verdict = { λ it. slice_verdict it.other_chips.now };
+    ghost verdict = { λ it. slice_verdict it.other_chips };
 
     ghost Knows = { λ it earlier. KnowsNames it.names (map slice_name earlier) × KnowsShapes it.shapes earlier };
 
@@ -47,7 +48,7 @@ impl<'a> Judge<SliceKind> for SliceJudge<'a> {
         _earlier: &[SliceKind],
         element: &SliceKind,
     ) -> Result<Verdict, AllocError> {
-        if !slice_stands(self.other_chips, element)
+        if !slice_stands(self.alloc, &self.other_chips, element)?
             || !add_name(&mut self.names, &element.tile, &element.name)?
             || !fits_shape(self.alloc, &mut self.shapes, element)?
         {
@@ -64,7 +65,8 @@ impl<'a> Judge<SliceKind> for SliceJudge<'a> {
 /// judged so far.
 #[derive(Drop)]
 pub(crate) struct PadJudge<'a> {
-    other_chips: &'a [Name],
+    alloc: Global,
+    other_chips: NameSet<'a>,
     slices: &'a [SliceKind],
     names: KindNames,
 }
@@ -76,12 +78,13 @@ impl<'a> PadJudge<'a> {
         other_chips: &'a [Name],
         slices: &'a [SliceKind],
     ) -> Result<PadJudge<'a>, AllocError>
-        ensures other_chips { IfOk result (λ it. it.other_chips ≡ other_chips.entry) }
+        ensures other_chips { IfOk result (λ it. it.other_chips ≡ other_chips.now) }
         ensures slices { IfOk result (λ it. it.slices ≡ slices.entry) }
         ensures names { IfOk result (λ it. KnowsNames it.names (map slice_name slices.now ++ [])) }
     {
         Ok(PadJudge {
-            other_chips,
+            alloc,
+            other_chips: NameSet::new(alloc, other_chips)?,
             slices,
             names: names_of_slices(alloc, slices)?,
         })
@@ -89,12 +92,12 @@ impl<'a> PadJudge<'a> {
 }
 
 impl<'a> Judge<PadKind> for PadJudge<'a> {
-    ghost verdict = { λ it. pad_verdict it.other_chips.now it.slices.now };
+    ghost verdict = { λ it. pad_verdict it.other_chips it.slices.now };
 
     ghost Knows = { λ it earlier. KnowsNames it.names (map slice_name it.slices.now ++ map pad_name earlier) };
 
     fn judge(&mut self, _earlier: &[PadKind], element: &PadKind) -> Result<Verdict, AllocError> {
-        if !pad_stands(self.other_chips, element)
+        if !pad_stands(self.alloc, &self.other_chips, element)?
             || !add_name(&mut self.names, &element.tile, &element.name)?
         {
             return Ok(Verdict::Misfits);

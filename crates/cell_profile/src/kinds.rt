@@ -1,7 +1,11 @@
 //! The kinds of a profile, each by its form.
 
 ghost use Rattle.std.specs.Prelude.{◌≡◌};
+ghost use Rattle.serde_json.specs.View.{view};
+ghost use Rattle.json_forms.specs.Values.{member_in};
+ghost use Rattle.json_forms.specs.Choices.{choice_in, input_take};
 ghost use Rattle.json_forms.specs.Kinds.{is_pin_count as is_pin_count_spec};
+ghost use Rattle.json_values.specs.Reads.{Reads};
 
 use crate::Choice;
 use crate::choices::choice_member;
@@ -135,6 +139,13 @@ impl Model for RegisterKind {
     ghost view = { λ r. record { input = r.input; enable = r.enable; reset = r.reset; set = r.set; clock = r.clock; out = r.out } };
 }
 
+// The choice of an input of a register that the member of a name is.
+fn input_member(alloc: Global, register: &Value, name: &str) -> Result<Choice, FormError>
+    ensures { Reads (λ choice. choice) result (member_in name.now (choice_in input_take) (view register.now)) }
+{
+    choice_member(alloc, Purpose::Input, register, name)
+}
+
 impl FromJson for RegisterKind {
     ghost use Rattle.json_forms.specs.Kinds.{register_in};
 
@@ -144,9 +155,9 @@ impl FromJson for RegisterKind {
     fn from_json(alloc: Global, value: &Value) -> Result<RegisterKind, FormError> {
         let out = member_as::<Name>(alloc, value, "out")?;
         Ok(RegisterKind {
-            input: choice_member(alloc, Purpose::Input, value, "data")?,
-            enable: choice_member(alloc, Purpose::Input, value, "enable")?,
-            reset: choice_member(alloc, Purpose::Input, value, "reset")?,
+            input: input_member(alloc, value, "data")?,
+            enable: input_member(alloc, value, "enable")?,
+            reset: input_member(alloc, value, "reset")?,
             set: choice_member(alloc, Purpose::Set, value, "set")?,
             clock: choice_member(alloc, Purpose::Clock, value, "clock")?,
             out,

@@ -6,6 +6,7 @@ mod errors;
 mod judges;
 mod kinds;
 mod known;
+mod name_set;
 mod profile;
 mod rules;
 mod takes;

@@ -77,7 +77,7 @@ fn slices(
     ensures { OrMemory (λ kinds. kinds) fault_of result
         (list_read (codes "slices") slice_in (slice_verdict other_chips.now) (view file.now)) }
 {
-    let mut judge = SliceJudge::new(alloc, other_chips);
+    let mut judge = SliceJudge::new(alloc, other_chips)?;
     Ok(judged_list_member::<SliceKind, SliceJudge>(alloc, file, "slices", &mut judge)?)
 }
 

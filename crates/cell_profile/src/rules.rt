@@ -1,36 +1,31 @@
 //! The rules that kinds keep, beside their forms.
 
-ghost use Rattle.std.specs.Prelude.{◌≡◌, ◌&&◌, true, nat_eq};
+ghost use Rattle.std.specs.Prelude.{◌≡◌, ◌&&◌, true, IfOk};
 ghost use Rattle.std.specs.Option.{option_map_or};
-ghost use Rattle.std.specs.List.{list_all, list_any, starts_with};
+ghost use Rattle.std.specs.List.{list_all, list_any};
 ghost use Rattle.std.specs.Set.{is_member};
 ghost use Rattle.std.specs.Str.{bytes_eq};
 ghost use Rattle.json_forms.specs.KindRules as rules;
 ghost use Rattle.cell_profile.specs.Takes.{take_of};
 
+use crate::name_set::NameSet;
 use crate::{Case, Choice, PadKind, RegisterKind, Require, SliceKind, TableKind, Take};
 use rr_ids::Name;
+use std::alloc::{AllocError, Global};
 
 // Settings
 
-// Whether a name stands in a list.
-fn stands_in(names: &[Name], name: &Name) -> bool
-    ensures { result ≡ is_member bytes_eq names.now name.now }
-{
-    names.iter().any(|other| *name == *other)
-}
-
 // Whether the setting of a choice, where it has one, is among the settings of its kind.
-fn choice_setting_stands(settings: &[Name], choice: &Choice) -> bool
+fn choice_setting_stands(settings: &NameSet<'_>, choice: &Choice) -> bool
     ensures { result ≡ rules.choice_setting_passes (is_member bytes_eq settings.now) choice.now }
 {
     match &choice.setting {
-        Some(setting) => stands_in(settings, setting),
+        Some(setting) => settings.contains(setting.bytes()),
         None => true,
     }
 }
 
-fn register_settings_stand(settings: &[Name], register: &RegisterKind) -> bool
+fn register_settings_stand(settings: &NameSet<'_>, register: &RegisterKind) -> bool
     ensures { result ≡ rules.register_settings_pass (is_member bytes_eq settings.now) register.now }
 {
     choice_setting_stands(settings, &register.input)
@@ -40,7 +35,7 @@ fn register_settings_stand(settings: &[Name], register: &RegisterKind) -> bool
         && choice_setting_stands(settings, &register.clock)
 }
 
-fn all_registers_stand(settings: &[Name], registers: &[RegisterKind]) -> bool
+fn all_registers_stand(settings: &NameSet<'_>, registers: &[RegisterKind]) -> bool
     ensures { result ≡ list_all (rules.register_settings_pass (is_member bytes_eq settings.now)) registers.now }
 {
     registers
@@ -48,25 +43,26 @@ fn all_registers_stand(settings: &[Name], registers: &[RegisterKind]) -> bool
         .all(|register| register_settings_stand(settings, register))
 }
 
-fn requirements_stand(settings: &[Name], requirements: &[Require]) -> bool
+fn requirements_stand(settings: &NameSet<'_>, requirements: &[Require]) -> bool
     ensures { result ≡ list_all (λ require. is_member bytes_eq settings.now require.setting) requirements.now }
 {
     requirements
         .iter()
-        .all(|require| stands_in(settings, &require.setting))
+        .all(|require| settings.contains(require.setting.bytes()))
 }
 
-fn words_stand(settings: &[Name], tables: &[TableKind]) -> bool
+fn words_stand(settings: &NameSet<'_>, tables: &[TableKind]) -> bool
     ensures { result ≡ list_all (λ table. is_member bytes_eq settings.now table.word) tables.now }
 {
-    tables.iter().all(|table| stands_in(settings, &table.word))
+    tables
+        .iter()
+        .all(|table| settings.contains(table.word.bytes()))
 }
 
-// Whether the settings that a slice kind names are among its settings.
-fn slice_settings_stand(kind: &SliceKind) -> bool
-    ensures { result ≡ rules.slice_settings_pass (is_member bytes_eq kind.now.settings) kind.now }
+// Whether the settings that a slice kind names are among these.
+fn slice_settings_stand(settings: &NameSet<'_>, kind: &SliceKind) -> bool
+    ensures { result ≡ rules.slice_settings_pass (is_member bytes_eq settings.now) kind.now }
 {
-    let settings = kind.settings.as_slice();
     requirements_stand(settings, kind.require.as_slice())
         && words_stand(settings, kind.tables.as_slice())
         && all_registers_stand(settings, kind.registers.as_slice())
@@ -74,29 +70,20 @@ fn slice_settings_stand(kind: &SliceKind) -> bool
 
 // Wires
 
-// Whether the name of a wire begins with a prefix of another chip.
-fn is_other_wire(other_chips: &[Name], wire: &Name) -> bool
-    ensures { result ≡ list_any (λ prefix. starts_with nat_eq wire.now prefix) other_chips.now }
-{
-    other_chips
-        .iter()
-        .any(|prefix| wire.bytes().starts_with(prefix.bytes()))
-}
-
 // Whether a wire is of this chip: its name begins with no prefix of another.
-fn is_own_wire(other_chips: &[Name], wire: &Name) -> bool
+fn is_own_wire(other_chips: &NameSet<'_>, wire: &Name) -> bool
     ensures { result ≡ rules.is_own_wire other_chips.now wire.now }
 {
-    !is_other_wire(other_chips, wire)
+    !other_chips.has_front_of(wire.bytes())
 }
 
-fn are_own_wires(other_chips: &[Name], wires: &[Name]) -> bool
+fn are_own_wires(other_chips: &NameSet<'_>, wires: &[Name]) -> bool
     ensures { result ≡ list_all (rules.is_own_wire other_chips.now) wires.now }
 {
     wires.iter().all(|wire| is_own_wire(other_chips, wire))
 }
 
-fn take_wire_is_own(other_chips: &[Name], take: &Take) -> bool
+fn take_wire_is_own(other_chips: &NameSet<'_>, take: &Take) -> bool
     ensures { result ≡ rules.take_wire_passes (rules.is_own_wire other_chips.now) (take_of take.now) }
 {
     match take {
@@ -106,7 +93,7 @@ fn take_wire_is_own(other_chips: &[Name], take: &Take) -> bool
     }
 }
 
-fn choice_wires_are_own(other_chips: &[Name], choice: &Choice) -> bool
+fn choice_wires_are_own(other_chips: &NameSet<'_>, choice: &Choice) -> bool
     ensures { result ≡ rules.choice_wires_pass (rules.is_own_wire other_chips.now) choice.now }
 {
     choice
@@ -116,13 +103,13 @@ fn choice_wires_are_own(other_chips: &[Name], choice: &Choice) -> bool
         .all(|case| take_wire_is_own(other_chips, &case.take))
 }
 
-fn table_wires_are_own(other_chips: &[Name], table: &TableKind) -> bool
+fn table_wires_are_own(other_chips: &NameSet<'_>, table: &TableKind) -> bool
     ensures { result ≡ rules.table_wires_pass (rules.is_own_wire other_chips.now) table.now }
 {
     are_own_wires(other_chips, table.pins.as_slice()) && is_own_wire(other_chips, &table.out)
 }
 
-fn register_wires_are_own(other_chips: &[Name], register: &RegisterKind) -> bool
+fn register_wires_are_own(other_chips: &NameSet<'_>, register: &RegisterKind) -> bool
     ensures { result ≡ rules.register_wires_pass (rules.is_own_wire other_chips.now) register.now }
 {
     choice_wires_are_own(other_chips, &register.input)
@@ -133,7 +120,7 @@ fn register_wires_are_own(other_chips: &[Name], register: &RegisterKind) -> bool
         && is_own_wire(other_chips, &register.out)
 }
 
-fn all_tables_are_own(other_chips: &[Name], tables: &[TableKind]) -> bool
+fn all_tables_are_own(other_chips: &NameSet<'_>, tables: &[TableKind]) -> bool
     ensures { result ≡ list_all (rules.table_wires_pass (rules.is_own_wire other_chips.now)) tables.now }
 {
     tables
@@ -141,7 +128,7 @@ fn all_tables_are_own(other_chips: &[Name], tables: &[TableKind]) -> bool
         .all(|table| table_wires_are_own(other_chips, table))
 }
 
-fn all_registers_are_own(other_chips: &[Name], registers: &[RegisterKind]) -> bool
+fn all_registers_are_own(other_chips: &NameSet<'_>, registers: &[RegisterKind]) -> bool
     ensures { result ≡ list_all (rules.register_wires_pass (rules.is_own_wire other_chips.now)) registers.now }
 {
     registers
@@ -149,20 +136,20 @@ fn all_registers_are_own(other_chips: &[Name], registers: &[RegisterKind]) -> bo
         .all(|register| register_wires_are_own(other_chips, register))
 }
 
-fn slice_wires_are_own(other_chips: &[Name], kind: &SliceKind) -> bool
+fn slice_wires_are_own(other_chips: &NameSet<'_>, kind: &SliceKind) -> bool
     ensures { result ≡ rules.slice_wires_pass (rules.is_own_wire other_chips.now) kind.now }
 {
     all_tables_are_own(other_chips, kind.tables.as_slice())
         && all_registers_are_own(other_chips, kind.registers.as_slice())
 }
 
-fn pad_wires_are_own(other_chips: &[Name], kind: &PadKind) -> bool
+fn pad_wires_are_own(other_chips: &NameSet<'_>, kind: &PadKind) -> bool
     ensures { result ≡ rules.pad_wires_pass (rules.is_own_wire other_chips.now) kind.now }
 {
     wire_is_own(other_chips, &kind.in_wire) && wire_is_own(other_chips, &kind.out_wire)
 }
 
-fn wire_is_own(other_chips: &[Name], wire: &Option<Name>) -> bool
+fn wire_is_own(other_chips: &NameSet<'_>, wire: &Option<Name>) -> bool
     ensures { result ≡ option_map_or (rules.is_own_wire other_chips.now) wire.now true }
 {
     match wire {
@@ -174,11 +161,16 @@ fn wire_is_own(other_chips: &[Name], wire: &Option<Name>) -> bool
 // Slices and pads
 
 /// Whether a slice kind keeps the rules that look at no other kind: its settings and wires.
-pub(crate) fn slice_stands(other_chips: &[Name], kind: &SliceKind) -> bool
-    ensures { result ≡ (rules.slice_settings_pass (is_member bytes_eq kind.now.settings) kind.now
-        && rules.slice_wires_pass (rules.is_own_wire other_chips.now) kind.now) }
+pub(crate) fn slice_stands(
+    alloc: Global,
+    other_chips: &NameSet<'_>,
+    kind: &SliceKind,
+) -> Result<bool, AllocError>
+    ensures { IfOk result (λ stands. stands ≡ (rules.slice_settings_pass (is_member bytes_eq kind.now.settings) kind.now
+        && rules.slice_wires_pass (rules.is_own_wire other_chips.now) kind.now)) }
 {
-    slice_settings_stand(kind) && slice_wires_are_own(other_chips, kind)
+    let settings = NameSet::new(alloc, kind.settings.as_slice())?;
+    Ok(slice_settings_stand(&settings, kind) && slice_wires_are_own(other_chips, kind))
 }
 
 // The most tables, and the most registers, of a slice kind.
@@ -212,12 +204,19 @@ fn has_wires_of_modes(kind: &PadKind) -> bool
 }
 
 /// Whether a pad kind keeps the rules that look at no other kind: its setting and wires, and the wires of its modes.
-pub(crate) fn pad_stands(other_chips: &[Name], kind: &PadKind) -> bool
-    ensures { result ≡ (rules.choice_setting_passes (is_member bytes_eq kind.now.settings) kind.now.mode
+pub(crate) fn pad_stands(
+    alloc: Global,
+    other_chips: &NameSet<'_>,
+    kind: &PadKind,
+) -> Result<bool, AllocError>
+    ensures { IfOk result (λ stands. stands ≡ (rules.choice_setting_passes (is_member bytes_eq kind.now.settings) kind.now.mode
         && rules.pad_wires_pass (rules.is_own_wire other_chips.now) kind.now
-        && rules.has_wires_of_modes kind.now) }
+        && rules.has_wires_of_modes kind.now)) }
 {
-    choice_setting_stands(kind.settings.as_slice(), &kind.mode)
-        && pad_wires_are_own(other_chips, kind)
-        && has_wires_of_modes(kind)
+    let settings = NameSet::new(alloc, kind.settings.as_slice())?;
+    Ok(
+        choice_setting_stands(&settings, &kind.mode)
+            && pad_wires_are_own(other_chips, kind)
+            && has_wires_of_modes(kind),
+    )
 }

@@ -386,3 +386,53 @@ fn many_kinds_are_read(rt: HostRuntime) -> Result<(), Fail> {
     }
     Ok(())
 }
+
+// A text for each of many numbers, the number between two others.
+fn numbered(alloc: Global, before: &str, behind: &str) -> Result<String, AllocError> {
+    let mut text = String::new(alloc);
+    for number in 100_000u32..200_000 {
+        let one = format!(in alloc; "{before}{number}{behind}")?;
+        text.push_str(one.as_str())?;
+    }
+    Ok(text)
+}
+
+// Many prefixes, and a slice kind of many settings, with many requirements, each of the last setting, and a choice of
+// many wires; the last requirement is of one more setting, and the last case takes one more wire.
+fn many_names(alloc: Global, setting: &str, wire: &str) -> Result<String, AllocError> {
+    let prefixes = numbered(alloc, "\"P", "\",")?;
+    let settings = numbered(alloc, "\"S", "\",")?;
+    let requirements = numbered(alloc, r#"["S999999", "V"#, r#""],"#)?;
+    let cases = numbered(alloc, r#"["V", "=P9"#, r#""],"#)?;
+    format!(in alloc;
+        r#"{{"chip_prefix": "", "other_chips": [{prefixes}"P888888"], "wide": [], "joins": [], "pads": [],
+"slices": [{{"tile": "T", "name": "S", "shape": "L", "settings": [{settings}"S999999"],
+ "require": [{requirements}["{setting}", "V"]], "tables": [],
+ "registers": [{{"data": ["S999999", [{cases}["V", "={wire}"]]], "enable": ["", [["", "1"]]],
+   "reset": ["", [["", "0"]]], "set": ["", [["", "0"]]], "clock": ["", [["", "=CK"]]], "out": "Q"}}]}}]}}"#
+    )
+}
+
+static MORE_NAMES: [(&'static str, &'static str, &'static str); 3] = [
+    ("S100000", "P777777", "none"),
+    ("S777777", "P777777", "slices.0"),
+    ("S100000", "P888888_W", "slices.0"),
+];
+
+fn more_names() -> &'static [(&'static str, &'static str, &'static str)] {
+    &MORE_NAMES
+}
+
+#[test]
+fn many_names_are_looked_up(rt: HostRuntime) -> Result<(), Fail> {
+    let alloc = rt.alloc();
+    for &(setting, wire, wanted) in more_names() {
+        let text = many_names(alloc, setting, wire)?;
+        let answer = read(alloc, text.as_bytes());
+        assert!(rt;
+            fault_name(&answer) == wanted.as_bytes(),
+            "{setting} {wire}"
+        );
+    }
+    Ok(())
+}
