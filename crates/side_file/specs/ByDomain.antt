@@ -1,20 +1,20 @@
 -- Names of cells by their domains.
 use Rattle.std.specs.Prelude.{◌≡◌, ℕ, Bool, not, List, find, Option, option_map}
 use Rattle.std.specs.List.{flat_map}
-use Rattle.std.specs.BTreeSet.{BTreeSet, contains}
+use Rattle.std.specs.BTreeSet.{BTreeSet}
 use Rattle.records.specs.Side.{Domain, D0, D1, D2, Placed, Triple}
 use Rattle.side_form.specs.Side.{entries_of_triple, is_in_domain}
-use Rattle.side_file.specs.Known.{name_order}
+use Rattle.side_file.specs.Known.{Lent, has_name}
 use Rattle.side_file.specs.declared.domains.ByDomain.{ByDomain}
 
-abbrev pub names_of : ByDomain → Domain → BTreeSet (List ℕ)
+abbrev pub names_of : ByDomain → Domain → BTreeSet Lent
 names_of sets D0 = sets.zero
 names_of sets D1 = sets.one
 names_of sets D2 = sets.two
 
 -- a name stands among those of a domain
 abbrev pub is_there : ByDomain → List ℕ × Domain → Bool
-is_there sets entry = contains name_order (names_of sets entry.1) entry.0
+is_there sets entry = has_name (names_of sets entry.1) entry.0
 
 -- the first entry of triples that isn't there
 abbrev pub elsewhere_in : ByDomain → List Triple → Option (List ℕ)

@@ -14,26 +14,26 @@ use std::collections::BTreeSet;
 
 /// The names of the cells in each domain.
 #[derive(Drop)]
-struct ByDomain {
-    zero: BTreeSet<Name>,
-    one: BTreeSet<Name>,
-    two: BTreeSet<Name>,
+struct ByDomain<'a> {
+    zero: BTreeSet<&'a Name>,
+    one: BTreeSet<&'a Name>,
+    two: BTreeSet<&'a Name>,
 }
 
 // The names of the cells in a domain.
-fn names_in(alloc: Global, cells: &[Placed], domain: Domain) -> Result<BTreeSet<Name>, AllocError>
+fn names_in(alloc: Global, cells: &[Placed], domain: Domain) -> Result<BTreeSet<&Name>, AllocError>
     ensures { IfOk result (λ set. KnowsDomain (domain_of domain) set cells.now) }
 {
-    let mut names = BTreeSet::<Name>::new(alloc);
+    let mut names = BTreeSet::<&Name>::new(alloc);
     for cell in cells {
         if cell.domain == domain {
-            names.insert(cell.name.copy()?)?;
+            names.insert(&cell.name)?;
         }
     }
     Ok(names)
 }
 
-fn by_domain(alloc: Global, cells: &[Placed]) -> Result<ByDomain, AllocError>
+fn by_domain(alloc: Global, cells: &[Placed]) -> Result<ByDomain<'_>, AllocError>
     ensures { IfOk result (λ sets. KnowsDomains sets cells.now) }
 {
     Ok(ByDomain {
@@ -44,24 +44,24 @@ fn by_domain(alloc: Global, cells: &[Placed]) -> Result<ByDomain, AllocError>
 }
 
 // The first entry of a triple that isn't in the domain of its place.
-fn entry_elsewhere<'a>(sets: &ByDomain, triple: &'a Triple) -> Option<&'a Name>
+fn entry_elsewhere<'a>(sets: &ByDomain<'a>, triple: &'a Triple) -> Option<&'a Name>
     ensures { option_copied result ≡ option_map (λ entry. entry.0)
         (find (λ entry. not (is_there sets.now entry)) (side_form.entries_of_triple triple.now)) }
 {
-    if !sets.zero.contains(&triple.first) {
+    if !sets.zero.contains(&&triple.first) {
         return Some(&triple.first);
     }
-    if !sets.one.contains(&triple.second) {
+    if !sets.one.contains(&&triple.second) {
         return Some(&triple.second);
     }
-    if !sets.two.contains(&triple.third) {
+    if !sets.two.contains(&&triple.third) {
         return Some(&triple.third);
     }
     None
 }
 
 // The first entry of triples that isn't in the domain of its place.
-fn first_elsewhere<'a>(sets: &ByDomain, triples: &'a [Triple]) -> Option<&'a Name>
+fn first_elsewhere<'a>(sets: &ByDomain<'a>, triples: &'a [Triple]) -> Option<&'a Name>
     ensures { option_copied result ≡ elsewhere_in sets.now triples.now }
 {
     for triple in triples {
@@ -73,7 +73,7 @@ fn first_elsewhere<'a>(sets: &ByDomain, triples: &'a [Triple]) -> Option<&'a Nam
 }
 
 // The same in the triples of pads.
-fn first_pad_elsewhere<'a>(sets: &ByDomain, side: &'a Side) -> Option<&'a Name>
+fn first_pad_elsewhere<'a>(sets: &ByDomain<'a>, side: &'a Side) -> Option<&'a Name>
     ensures { option_copied result ≡ elsewhere_in sets.now (side_form.pad_triples side.now) }
 {
     if let Some(name) = first_elsewhere(sets, side.inputs.as_slice()) {

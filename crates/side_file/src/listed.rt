@@ -2,9 +2,8 @@
 
 ghost use Rattle.std.specs.Prelude.{◌≡◌, map, not, find, IfOk, option_map};
 ghost use Rattle.std.specs.Option.{option_copied};
-ghost use Rattle.std.specs.BTreeSet.{contains};
 ghost use Rattle.side_form.specs.Side as side_form;
-ghost use Rattle.side_file.specs.Known.{KnowsNames, name_order};
+ghost use Rattle.side_file.specs.Known.{KnowsNames, has_name};
 
 use crate::Side;
 use crate::names::{cell_names, pad_entries, slice_entries, voter_names};
@@ -13,22 +12,22 @@ use std::alloc::{AllocError, Global};
 use std::collections::BTreeSet;
 
 // The set of names.
-fn set_of(alloc: Global, names: &[&Name]) -> Result<BTreeSet<Name>, AllocError>
+fn set_of<'a>(alloc: Global, names: &[&'a Name]) -> Result<BTreeSet<&'a Name>, AllocError>
     ensures { IfOk result (λ set. KnowsNames set (map (λ n. n.now) names.now)) }
 {
-    let mut set = BTreeSet::<Name>::new(alloc);
+    let mut set = BTreeSet::<&Name>::new(alloc);
     for name in names {
-        set.insert(name.copy()?)?;
+        set.insert(*name)?;
     }
     Ok(set)
 }
 
 // The first name that isn't in a set.
-fn first_missing<'a>(names: &[&'a Name], set: &BTreeSet<Name>) -> Option<&'a Name>
-    ensures { option_copied result ≡ find (λ name. not (contains name_order set.now name)) (map (λ n. n.now) names.now) }
+fn first_missing<'a>(names: &[&'a Name], set: &BTreeSet<&'a Name>) -> Option<&'a Name>
+    ensures { option_copied result ≡ find (λ name. not (has_name set.now name)) (map (λ n. n.now) names.now) }
 {
     for name in names {
-        if !set.contains(*name) {
+        if !set.contains(name) {
             return Some(*name);
         }
     }
@@ -39,7 +38,7 @@ fn first_missing<'a>(names: &[&'a Name], set: &BTreeSet<Name>) -> Option<&'a Nam
 fn first_outside<'a>(
     alloc: Global,
     names: &[&'a Name],
-    listed: &[&Name],
+    listed: &[&'a Name],
 ) -> Result<Option<&'a Name>, AllocError>
     ensures { IfOk result (λ name. option_copied name
         ≡ side_form.first_outside (map (λ n. n.now) names.now) (map (λ n. n.now) listed.now)) }

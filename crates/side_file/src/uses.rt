@@ -36,12 +36,12 @@ fn second_cell<'a>(alloc: Global, cells: &[&'a Placed]) -> Result<Option<&'a Nam
     ensures { IfOk result (λ name. first_fault side_form.cell_fault (map (λ c. c.now) cells.now)
         ≡ option_map side_form.SideFault.DuplicateName (option_copied name)) }
 {
-    let mut names = BTreeSet::<Name>::new(alloc);
-    let mut sites = BTreeSet::<(Name, Name)>::new(alloc);
+    let mut names = BTreeSet::<&Name>::new(alloc);
+    let mut sites = BTreeSet::<(&Name, &Name)>::new(alloc);
     for cell in cells {
         let cell: &'a Placed = cell;
-        let is_new = names.insert(cell.name.copy()?)?;
-        let is_free = sites.insert((cell.tile.copy()?, cell.kind.copy()?))?;
+        let is_new = names.insert(&cell.name)?;
+        let is_free = sites.insert((&cell.tile, &cell.kind))?;
         if !is_new || !is_free {
             return Ok(Some(&cell.name));
         }
@@ -54,9 +54,9 @@ fn second_name<'a>(alloc: Global, names: &[&'a Name]) -> Result<Option<&'a Name>
     ensures { IfOk result (λ name. first_fault side_form.entry_fault (map (λ n. n.now) names.now)
         ≡ option_map side_form.SideFault.DuplicateName (option_copied name)) }
 {
-    let mut known = BTreeSet::<Name>::new(alloc);
+    let mut known = BTreeSet::<&Name>::new(alloc);
     for name in names {
-        if !known.insert(name.copy()?)? {
+        if !known.insert(*name)? {
             return Ok(Some(*name));
         }
     }
@@ -68,9 +68,9 @@ fn second_voter(alloc: Global, voters: &[Voter]) -> Result<Option<&Name>, AllocE
     ensures { IfOk result (λ name. first_fault side_form.voter_fault voters.now
         ≡ option_map side_form.SideFault.DuplicateName (option_copied name)) }
 {
-    let mut known = BTreeSet::<(Name, u16)>::new(alloc);
+    let mut known = BTreeSet::<(&Name, u16)>::new(alloc);
     for voter in voters {
-        if !known.insert((voter.slice.copy()?, voter.table))? {
+        if !known.insert((&voter.slice, voter.table))? {
             return Ok(Some(&voter.slice));
         }
     }

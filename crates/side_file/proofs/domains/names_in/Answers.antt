@@ -6,7 +6,7 @@ use Rattle.side_file.proofs.SameDomain.{same_domains}
 use Rattle.side_file.proofs.Sets.{one_more_in_domain, one_more_elsewhere}
 use Rattle.side_file.proofs.Walks.{so_far_plain}
 use Rattle.side_file.proofs.domains.names_in.Goals as goal
-use Rattle.side_file.proofs.domains.names_in.Goals.{then-eq+in_ok-copy+in_ok-insert, else-eq}
+use Rattle.side_file.proofs.domains.names_in.Goals.{then-eq+in_ok-insert, else-eq}
 
 pub loop-cell-preserved : goal.loop-cell-preserved
 loop-cell-preserved c =
@@ -16,6 +16,6 @@ loop-cell-preserved c =
     let same : c.eq.result ≡ same_domain cell.domain (domain_of c.args.domain) = c.eq.ensures ∙ same_domains c.cell.inside.domain c.args.domain ∙ ap (λ d. same_domain d (domain_of c.args.domain)) copy in
     rw (so_far_plain c.args.cells.now c.loop-cell.cell-index cell c.loop-cell-test.true c.cell-item.is)
     (elim c.if-eq.branch [
-      | then-eq+in_ok-copy+in_ok-insert w ↦ rw w.names-is (one_more_in_domain (domain_of c.args.domain) _ cell c.loop-cell.names w.insert.new.self (sym same ∙ w.if-eq.true) c.loop-cell.invariant (rw (w.in_ok-copy.ensures ∙ name) at w.in_ok-insert.ensures.updates.0))
+      | then-eq+in_ok-insert w ↦ rw w.names-is (one_more_in_domain (domain_of c.args.domain) _ cell _ c.loop-cell.names w.insert.new.self name (sym same ∙ w.if-eq.true) c.loop-cell.invariant w.in_ok-insert.ensures.updates.0)
       | else-eq w ↦ rw w.names-is (one_more_elsewhere (domain_of c.args.domain) _ cell c.loop-cell.names (sym same ∙ w.if-eq.false) c.loop-cell.invariant)
     ])

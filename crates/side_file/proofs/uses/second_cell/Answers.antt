@@ -12,8 +12,8 @@ returns-then-not-is_new c =
     let name : c.cell.inside.name ≡ cell.name = ap (λ (p : Placed). p.name) c.cell.view_is in
     let tile : c.cell.inside.tile ≡ cell.tile = ap (λ (p : Placed). p.tile) c.cell.view_is in
     let kind : c.cell.inside.kind ≡ cell.kind = ap (λ (p : Placed). p.kind) c.cell.view_is in
-    let named = rw (c.in_ok-copy.ensures ∙ name) at c.in_ok-is_new.ensures.added in
-    let sited = rw (c.in_ok-copy-2.ensures ∙ tile, c.in_ok-copy-3.ensures ∙ kind) at c.in_ok-is_free.ensures.added in
+    let named = rw name at c.in_ok-is_new.ensures.added in
+    let sited = rw (tile, kind) at c.in_ok-is_free.ensures.added in
     let before = map (λ p. p.now) (take c.loop-cell.cell-index c.args.cells.now) in
     let again : cell_fault before cell ≡ Some (DuplicateName cell.name) = elim c.then-not-is_new.either [
       | inl is ↦ cell_named_before before cell c.loop-cell.names c.loop-cell.sites c.loop-cell.invariant.names c.loop-cell.invariant.sites (sym named ∙ is)
@@ -29,14 +29,12 @@ loop-cell-preserved c =
     let name : c.cell.inside.name ≡ cell.name = ap (λ (p : Placed). p.name) c.cell.view_is in
     let tile : c.cell.inside.tile ≡ cell.tile = ap (λ (p : Placed). p.tile) c.cell.view_is in
     let kind : c.cell.inside.kind ≡ cell.kind = ap (λ (p : Placed). p.kind) c.cell.view_is in
-    let named = rw (c.in_ok-copy.ensures ∙ name) at c.in_ok-is_new.ensures.added in
-    let sited = rw (c.in_ok-copy-2.ensures ∙ tile, c.in_ok-copy-3.ensures ∙ kind) at c.in_ok-is_free.ensures.added in
+    let named = rw name at c.in_ok-is_new.ensures.added in
+    let sited = rw (tile, kind) at c.in_ok-is_free.ensures.added in
     rw (so_far (λ p. p.now) c.args.cells.now c.loop-cell.cell-index c.cell-item.result c.loop-cell-test.true c.cell-item.is)
     (record {
-      names = one_more_cell _ cell c.loop-cell.names c.insert.new.self c.loop-cell.invariant.names (rw (c.in_ok-copy.ensures ∙ name) at c.in_ok-is_new.ensures.updates.0);
-      sites =
-          one_more_site _ cell c.loop-cell.sites c.insert-in-loop-cell.new.self c.loop-cell.invariant.sites
-          (rw (c.in_ok-copy-2.ensures ∙ tile, c.in_ok-copy-3.ensures ∙ kind) at c.in_ok-is_free.ensures.updates.0);
+      names = one_more_cell _ cell _ c.loop-cell.names c.insert.new.self name c.loop-cell.invariant.names c.in_ok-is_new.ensures.updates.0;
+      sites = one_more_site _ cell _ c.loop-cell.sites c.insert-in-loop-cell.new.self tile kind c.loop-cell.invariant.sites c.in_ok-is_free.ensures.updates.0;
       rest =
           faultless cell_fault _ _ _ cell _ c.loop-cell.invariant.rest
           (left (λ p. p.now) c.args.cells.now c.loop-cell.cell-index c.cell-item.result c.loop-cell-test.true c.cell-item.is)

@@ -8,20 +8,18 @@ use Rattle.side_file.proofs.uses.second_name.Goals as goal
 pub returns-then-not-branch : goal.returns-then-not-branch
 returns-then-not-branch c =
     let name = c.name-item.result.now in
-    let added = rw c.in_ok-copy.ensures at c.in_ok-insert.ensures.added in
     faulty entry_fault _ _ _ name _ (DuplicateName name) c.loop-name.invariant.rest
     (left (λ n. n.now) c.args.names.now c.loop-name.name-index c.name-item.result c.loop-name-test.true c.name-item.is)
-    (entry_used _ name c.loop-name.known c.loop-name.invariant.names (sym added ∙ c.if-not-branch.true))
+    (entry_used _ name c.loop-name.known c.loop-name.invariant.names (sym c.in_ok-insert.ensures.added ∙ c.if-not-branch.true))
 
 pub loop-name-preserved : goal.loop-name-preserved
 loop-name-preserved c =
     let name = c.name-item.result.now in
-    let added = rw c.in_ok-copy.ensures at c.in_ok-insert.ensures.added in
     rw (so_far (λ n. n.now) c.args.names.now c.loop-name.name-index c.name-item.result c.loop-name-test.true c.name-item.is)
     (record {
-      names = one_more_name _ name c.loop-name.known c.insert.new.self c.loop-name.invariant.names (rw c.in_ok-copy.ensures at c.in_ok-insert.ensures.updates.0);
+      names = one_more_name _ c.name-item.result.now c.loop-name.known c.insert.new.self c.loop-name.invariant.names c.in_ok-insert.ensures.updates.0;
       rest =
           faultless entry_fault _ _ _ name _ c.loop-name.invariant.rest
           (left (λ n. n.now) c.args.names.now c.loop-name.name-index c.name-item.result c.loop-name-test.true c.name-item.is)
-          (entry_is_new _ name c.loop-name.known c.loop-name.invariant.names (sym added ∙ c.if-not-branch.false));
+          (entry_is_new _ name c.loop-name.known c.loop-name.invariant.names (sym c.in_ok-insert.ensures.added ∙ c.if-not-branch.false));
     })

@@ -11,7 +11,7 @@ returns-then-not-branch c =
     let voter = c.voter-item.result in
     let slice : c.voter.inside.slice ≡ voter.slice = ap (λ (v : Voter). v.slice) c.voter.view_is in
     let table : c.voter.inside.table ≡ voter.table = ap (λ (v : Voter). v.table) c.voter.view_is in
-    let added = rw (c.in_ok-copy.ensures ∙ slice, table) at c.in_ok-insert.ensures.added in
+    let added = rw (slice, table) at c.in_ok-insert.ensures.added in
     rw slice
     (faulty voter_fault _ _ _ voter _ (DuplicateName voter.slice) c.loop-voter.invariant.rest
     (left_plain c.args.voters.now c.loop-voter.voter-index voter c.loop-voter-test.true c.voter-item.is)
@@ -22,10 +22,10 @@ loop-voter-preserved c =
     let voter = c.voter-item.result in
     let slice : c.voter.inside.slice ≡ voter.slice = ap (λ (v : Voter). v.slice) c.voter.view_is in
     let table : c.voter.inside.table ≡ voter.table = ap (λ (v : Voter). v.table) c.voter.view_is in
-    let added = rw (c.in_ok-copy.ensures ∙ slice, table) at c.in_ok-insert.ensures.added in
+    let added = rw (slice, table) at c.in_ok-insert.ensures.added in
     rw (so_far_plain c.args.voters.now c.loop-voter.voter-index voter c.loop-voter-test.true c.voter-item.is)
     (record {
-      voters = one_more_voter _ voter c.loop-voter.known c.insert.new.self c.loop-voter.invariant.voters (rw (c.in_ok-copy.ensures ∙ slice, table) at c.in_ok-insert.ensures.updates.0);
+      voters = one_more_voter _ voter _ c.loop-voter.known c.insert.new.self slice table c.loop-voter.invariant.voters c.in_ok-insert.ensures.updates.0;
       rest =
           faultless voter_fault _ _ _ voter _ c.loop-voter.invariant.rest (left_plain c.args.voters.now c.loop-voter.voter-index voter c.loop-voter-test.true c.voter-item.is)
           (voter_is_new _ voter c.loop-voter.known c.loop-voter.invariant.voters (sym added ∙ c.if-not-branch.false));
