@@ -4,3 +4,4 @@ pub mod Again
 pub mod SameDomain
 pub mod Elsewhere
 pub mod Floatless
+pub mod InTurn

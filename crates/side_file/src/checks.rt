@@ -5,7 +5,7 @@ ghost use Rattle.words.specs.OrMemory.{OrMemory};
 ghost use Rattle.rr_ids.specs.Limits.{limit_of};
 ghost use Rattle.json_forms.specs.Faults as form;
 ghost use Rattle.json_forms.specs.Results.{unless_fault};
-ghost use Rattle.side_form.specs.Side.{SideFault, side_fault, size_fault as size_fault_spec};
+ghost use Rattle.side_form.specs.Side as side_form;
 ghost use Rattle.side_file.specs.Faults.{fault_of};
 
 use crate::domains::wrong_domain;
@@ -29,8 +29,8 @@ fn exceeds(count: usize, most: usize) -> bool
 
 // The limit that is passed.
 fn size_fault(side: &Side) -> Option<Limit>
-    ensures { size_fault_spec side.now
-        ≡ option_map (λ limit. SideFault.OfForm (form.FormFault.TooLarge (limit_of limit))) result }
+    ensures { side_form.size_fault side.now
+        ≡ option_map (λ limit. side_form.SideFault.OfForm (form.FormFault.TooLarge (limit_of limit))) result }
 {
     if exceeds(side.slices.len(), MOST_SLICES) {
         return Some(Limit::Slices);
@@ -41,25 +41,65 @@ fn size_fault(side: &Side) -> Option<Limit>
     None
 }
 
+// No limit is passed.
+fn is_small(side: &Side) -> Result<(), SideError>
+    ensures { OrMemory (λ _. side.now) fault_of result (unless_fault (side_form.size_fault side.now) side.now) }
+{
+    match size_fault(side) {
+        Some(limit) => Err(SideError::TooLarge(limit)),
+        None => Ok(()),
+    }
+}
+
+// Nothing is used a second time.
+fn is_used_once(alloc: Global, side: &Side) -> Result<(), SideError>
+    ensures { OrMemory (λ _. side.now) fault_of result (unless_fault (side_form.second_use side.now) side.now) }
+{
+    match second_use(alloc, side)? {
+        Some(name) => Err(SideError::DuplicateName(name.copy()?)),
+        None => Ok(()),
+    }
+}
+
+// Each name is listed as what it is used as.
+fn is_listed(alloc: Global, side: &Side) -> Result<(), SideError>
+    ensures { OrMemory (λ _. side.now) fault_of result (unless_fault (side_form.unknown_name side.now) side.now) }
+{
+    match unknown_name(alloc, side)? {
+        Some(name) => Err(SideError::UnknownName(name.copy()?)),
+        None => Ok(()),
+    }
+}
+
+// Each cell is in a triple.
+fn is_paired(alloc: Global, side: &Side) -> Result<(), SideError>
+    ensures { OrMemory (λ _. side.now) fault_of result (unless_fault (side_form.unpaired side.now) side.now) }
+{
+    match unpaired(alloc, side)? {
+        Some(name) => Err(SideError::Unpaired(name.copy()?)),
+        None => Ok(()),
+    }
+}
+
+// Each entry of a triple is in the domain of its place.
+fn is_in_domains(alloc: Global, side: &Side) -> Result<(), SideError>
+    ensures { OrMemory (λ _. side.now) fault_of result (unless_fault (side_form.wrong_domain side.now) side.now) }
+{
+    match wrong_domain(alloc, side)? {
+        Some(name) => Err(SideError::WrongDomain(name.copy()?)),
+        None => Ok(()),
+    }
+}
+
 /// The side file again, or the first fault of its lists beside their forms: of limits, of second uses, of names that
 /// aren't listed, of cells in no triple, and of domains.
 pub(crate) fn checked(alloc: Global, side: Side) -> Result<Side, SideError>
-    ensures { OrMemory (λ side. side) fault_of result (unless_fault (side_fault side) side) }
+    ensures { OrMemory (λ side. side) fault_of result (unless_fault (side_form.side_fault side) side) }
 {
-    if let Some(limit) = size_fault(&side) {
-        return Err(SideError::TooLarge(limit));
-    }
-    if let Some(name) = second_use(alloc, &side)? {
-        return Err(SideError::DuplicateName(name.copy()?));
-    }
-    if let Some(name) = unknown_name(alloc, &side)? {
-        return Err(SideError::UnknownName(name.copy()?));
-    }
-    if let Some(name) = unpaired(alloc, &side)? {
-        return Err(SideError::Unpaired(name.copy()?));
-    }
-    if let Some(name) = wrong_domain(alloc, &side)? {
-        return Err(SideError::WrongDomain(name.copy()?));
-    }
+    is_small(&side)?;
+    is_used_once(alloc, &side)?;
+    is_listed(alloc, &side)?;
+    is_paired(alloc, &side)?;
+    is_in_domains(alloc, &side)?;
     Ok(side)
 }

@@ -1,13 +1,13 @@
-//! Copies of side files.
+//! Copies of lists.
 
 ghost use Rattle.std.specs.Prelude.{◌≡◌, IfOk};
 
-use crate::{Placed, Side, Triple, Voter};
+use crate::{Placed, Triple, Voter};
 use rr_ids::List;
 use std::alloc::{AllocError, Global};
 
 /// What can be copied where there is memory.
-trait Copied: Drop {
+pub(crate) trait Copied: Drop {
     ghost use Rattle.std.specs.Prelude.{◌≡◌, IfOk};
 
     /// An equal value.
@@ -47,8 +47,8 @@ impl Copied for Voter {
     }
 }
 
-// An equal list.
-fn list<T: Copied>(alloc: Global, items: &List<T>) -> Result<List<T>, AllocError>
+/// An equal list.
+pub(crate) fn list<T: Copied>(alloc: Global, items: &List<T>) -> Result<List<T>, AllocError>
     ensures { IfOk result (λ list. list ≡ items.now) }
 {
     let mut copies = List::new(alloc);
@@ -56,21 +56,4 @@ fn list<T: Copied>(alloc: Global, items: &List<T>) -> Result<List<T>, AllocError
         copies.push(item.copied()?)?;
     }
     Ok(copies)
-}
-
-impl Side {
-    /// An equal side file.
-    pub fn copy(&self, alloc: Global) -> Result<Side, AllocError>
-        ensures { IfOk result (λ side. side ≡ self.now) }
-    {
-        Ok(Side {
-            slices: list::<Placed>(alloc, &self.slices)?,
-            pads: list::<Placed>(alloc, &self.pads)?,
-            triples: list::<Triple>(alloc, &self.triples)?,
-            inputs: list::<Triple>(alloc, &self.inputs)?,
-            outputs: list::<Triple>(alloc, &self.outputs)?,
-            clocks: list::<Triple>(alloc, &self.clocks)?,
-            voters: list::<Voter>(alloc, &self.voters)?,
-        })
-    }
 }

@@ -1,14 +1,14 @@
 //! The text of side files.
 
-ghost use Rattle.std.specs.Prelude.{◌≡◌, false, map, string_bytes, IfOk};
-ghost use Rattle.serde_json.specs.Data.{Data, string};
-ghost use Rattle.serde_json.specs.View.{view};
+ghost use Rattle.std.specs.Prelude.{◌≡◌, false, map, string_bytes, IfOk, OnOk};
+ghost use Rattle.serde_json.specs.Data.{Data, string, put as with_member};
+ghost use Rattle.serde_json.specs.View.{view, members_view};
 ghost use Rattle.rr_ids.specs.Domains.{domain_of};
 ghost use Rattle.side_form.specs.SidePrint.{domain_number, list_value as list_value_spec, side_value as side_value_spec, side_text};
 
 use crate::{Placed, Side, Triple, Voter};
-use rr_ids::{Domain, Name};
-use serde_json::{Value, json};
+use rr_ids::{Domain, List, Name};
+use serde_json::{Map, Value, json, put};
 use std::alloc::{AllocError, Global};
 
 /// What is printed as a JSON value.
@@ -90,26 +90,33 @@ fn list<T: ToJson>(alloc: Global, items: &[T]) -> Result<Value, AllocError>
     Ok(Value::Array(values))
 }
 
+// Adds a list to an object.
+fn add_list<T: ToJson>(
+    members: &mut Map<String, Value>,
+    alloc: Global,
+    name: &str,
+    items: &List<T>,
+) -> Result<(), AllocError>
+    ensures { OnOk result (members_view members.new.entries
+        ≡ with_member name.now (list_value_spec (map T.json items.now)) (members_view members.old.entries)) }
+{
+    let values = list::<T>(alloc, items.as_slice())?;
+    put(members, alloc, name, values)
+}
+
 // The object of a side file.
 fn object(alloc: Global, side: &Side) -> Result<Value, AllocError>
     ensures { IfOk result (λ value. view value ≡ side_value_spec side.now) }
 {
-    let clocks = list::<Triple>(alloc, side.clocks.as_slice())?;
-    let inputs = list::<Triple>(alloc, side.inputs.as_slice())?;
-    let outputs = list::<Triple>(alloc, side.outputs.as_slice())?;
-    let pads = list::<Placed>(alloc, side.pads.as_slice())?;
-    let slices = list::<Placed>(alloc, side.slices.as_slice())?;
-    let triples = list::<Triple>(alloc, side.triples.as_slice())?;
-    let voters = list::<Voter>(alloc, side.voters.as_slice())?;
-    json!(in alloc; {
-        "clocks": clocks,
-        "inputs": inputs,
-        "outputs": outputs,
-        "pads": pads,
-        "slices": slices,
-        "triples": triples,
-        "voters": voters
-    })
+    let mut members = Map::new(alloc);
+    add_list::<Triple>(&mut members, alloc, "clocks", &side.clocks)?;
+    add_list::<Triple>(&mut members, alloc, "inputs", &side.inputs)?;
+    add_list::<Triple>(&mut members, alloc, "outputs", &side.outputs)?;
+    add_list::<Placed>(&mut members, alloc, "pads", &side.pads)?;
+    add_list::<Placed>(&mut members, alloc, "slices", &side.slices)?;
+    add_list::<Triple>(&mut members, alloc, "triples", &side.triples)?;
+    add_list::<Voter>(&mut members, alloc, "voters", &side.voters)?;
+    Ok(Value::Object(members))
 }
 
 /// The text of a side file, with `serde_json`: compact JSON and one line feed.

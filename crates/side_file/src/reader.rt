@@ -58,7 +58,6 @@ fn voters(alloc: Global, file: &Value) -> Result<List<Voter>, ListError>
 }
 
 // The lists of a side file by their forms.
-#[tactic(auto, unfolding(side_form::specs::Side::side_in))]
 fn side_in(alloc: Global, file: &Value) -> Result<Side, ListError>
     ensures { OrMemory (λ side. side) list_fault result (side_in_spec (view file.now)) }
 {

@@ -1,4 +1,5 @@
 use crate::{SideError, print, read};
+use std::alloc::Global;
 use std::test::Fail;
 
 const TOGGLE: &str =
@@ -32,25 +33,25 @@ fn named(error: &SideError) -> (&'static str, &[u8]) {
     }
 }
 
-#[test]
-fn texts_of_other_forms_are_refused(rt: HostRuntime) -> Result<(), Fail> {
-    for (text, wanted) in [("{", ("NotJson", "")), ("[]", ("BadShape", "."))] {
-        let error = read(rt.alloc(), text.as_bytes()).err().ok_or("a refusal")?;
-        let (kind, what) = named(&error);
-        assert!(rt; kind == wanted.0 && what == wanted.1.as_bytes(), "{text}");
-    }
-    Ok(())
+// Whether a text is refused by this name, and what it says.
+fn is_refused(alloc: Global, text: &str, wanted: (&str, &str)) -> Result<bool, Fail> {
+    let error = read(alloc, text.as_bytes()).err().ok_or("a refusal")?;
+    let (kind, what) = named(&error);
+    Ok(kind == wanted.0 && what == wanted.1.as_bytes())
 }
 
 #[test]
-fn faulty_side_files_are_refused(rt: HostRuntime) -> Result<(), Fail> {
-    // what stands in the toggle's text, what takes its place, and the refusal
-    let cases = [
-        (
-            "\"R1C2:MLC\",\"S0\",1]",
-            "\"R1C2:MLC\",\"S0\",0]",
-            ("WrongDomain", "a1"),
-        ),
+fn texts_of_other_forms_are_refused(rt: HostRuntime) -> Result<(), Fail> {
+    assert!(rt; is_refused(rt.alloc(), "{", ("NotJson", ""))?);
+    assert!(rt; is_refused(rt.alloc(), "[]", ("BadShape", "."))?);
+    Ok(())
+}
+
+// What stands in the toggle's text, what takes its place, and the refusal.
+type Case = (&'static str, &'static str, (&'static str, &'static str));
+
+fn second_uses() -> [Case; 4] {
+    [
         (
             "[\"a1\",\"R1C2:MLC\"",
             "[\"a0\",\"R1C2:MLC\"",
@@ -61,10 +62,30 @@ fn faulty_side_files_are_refused(rt: HostRuntime) -> Result<(), Fail> {
             "[\"a1\",\"R1C1:MLC\"",
             ("DuplicateName", "a1"),
         ),
+        (
+            "[\"a0\",\"a1\",\"a2\"]",
+            "[\"a0\",\"a1\",\"a0\"]",
+            ("DuplicateName", "a0"),
+        ),
         ("[\"a1\",0]", "[\"a0\",0]", ("DuplicateName", "a0")),
+    ]
+}
+
+fn unlisted_names() -> [Case; 4] {
+    [
         ("\"a1\",\"a2\"]", "\"a1\",\"a3\"]", ("UnknownName", "a3")),
         ("[\"a2\",0]", "[\"k2\",0]", ("UnknownName", "k2")),
         ("[[\"a0\",\"a1\",\"a2\"]]", "[]", ("Unpaired", "a0")),
+        (
+            "\"R1C2:MLC\",\"S0\",1]",
+            "\"R1C2:MLC\",\"S0\",0]",
+            ("WrongDomain", "a1"),
+        ),
+    ]
+}
+
+fn other_forms() -> [Case; 2] {
+    [
         (
             "[[\"k0\",\"k1\",\"k2\"]]",
             "[[],[]]",
@@ -75,12 +96,34 @@ fn faulty_side_files_are_refused(rt: HostRuntime) -> Result<(), Fail> {
             "[\"a0\",\"R1C1:MLC\",\"S0\"]",
             ("BadShape", "slices.0"),
         ),
-    ];
+    ]
+}
+
+// Each case is refused as it says.
+fn are_refused(alloc: Global, cases: &[Case]) -> Result<bool, Fail> {
     for (old, new, wanted) in cases {
-        let text = toggle().replacen(rt.alloc(), old, new, 1)?;
-        let error = read(rt.alloc(), text.as_bytes()).err().ok_or("a refusal")?;
-        let (kind, what) = named(&error);
-        assert!(rt; kind == wanted.0 && what == wanted.1.as_bytes(), "{new}");
+        let text = toggle().replacen(alloc, *old, *new, 1)?;
+        if !is_refused(alloc, text.as_str(), *wanted)? {
+            return Ok(false);
+        }
     }
+    Ok(true)
+}
+
+#[test]
+fn second_uses_are_refused(rt: HostRuntime) -> Result<(), Fail> {
+    assert!(rt; are_refused(rt.alloc(), &second_uses())?);
+    Ok(())
+}
+
+#[test]
+fn unlisted_names_are_refused(rt: HostRuntime) -> Result<(), Fail> {
+    assert!(rt; are_refused(rt.alloc(), &unlisted_names())?);
+    Ok(())
+}
+
+#[test]
+fn elements_of_other_forms_are_refused(rt: HostRuntime) -> Result<(), Fail> {
+    assert!(rt; are_refused(rt.alloc(), &other_forms())?);
     Ok(())
 }
