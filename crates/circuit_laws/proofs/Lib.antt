@@ -20,3 +20,4 @@ pub mod Shapes
 pub mod OneDesign
 pub mod Domains
 pub mod Keeps
+pub mod Anew

@@ -16,7 +16,7 @@ ghost use Rattle.circuit.specs.WellFormed.{IsWellFormed};
 ghost use Rattle.circuit.specs.Worlds.{World};
 ghost use Rattle.links.specs.Links.{IsClean};
 ghost use Rattle.records.specs.Side.{Domain, Triple};
-ghost use Rattle.std.specs.Prelude.{Bool, List, ℕ, ◌<◌, ◌↔◌, ◌≡◌};
+ghost use Rattle.std.specs.Prelude.{Bool, List, ℕ, ◌+◌, ◌-◌, ◌<◌, ◌↔◌, ◌≡◌};
 ghost use Rattle.words.specs.Members.{In};
 
 /// A wire has one domain at most, and so has a named cell.
@@ -56,6 +56,15 @@ pub fn registers_agree()
         → IsRun c no_fault start input n run → (t : ℕ) → t < n
         → (s u : Source) (q r : RegisterCell) → ReadPart c s → ReadPart c u → s.kind ≡ OfRegister q → u.kind ≡ OfRegister r
         → triple_of c.side s.part ≡ triple_of c.side u.part → (run t).part s.part ≡ (run t).part u.part }
+{}
+
+/// So from each of its cycles on an undisturbed run is a run from a common start, and what is said of all starts holds from
+/// there on.
+pub fn run_starts_anew()
+    ensures { (c : Circuit) → IsClean c.routing → IsWellFormed c → IsTriplicated c
+        → (start : PartTriple → Bool) (input : ℕ → Triple → Bool) (n : ℕ) (run : ℕ → World)
+        → IsRun c no_fault start input n run → (t : ℕ) → t < n
+        → (now : PartTriple → Bool) × IsRun c no_fault now (λ i. input (t + i)) (n - t) (λ i. run (t + i)) }
 {}
 
 /// Where no table reaches itself, each choice has just one faulty run: there is one that follows it, and any
