@@ -83,14 +83,18 @@ databases_from files family (kind ∷ kinds) types h t i =
 ok_same : (d e : Design) → (let o : Result Design Refusal = Ok d in o) ≡ Ok e → d ≡ e
 ok_same d e h = cc
 
--- some bytes are read as the configuration of a design, and its device is read
-pub record FilesRead (design : Design) : Type 0 where
+-- Some bytes are read as the configuration of a design, and its device is read. The files of the device are parsed as its
+-- grid, its profile and its databases.
+pub record FilesRead (files : Files) (inputs : Inputs) (design : Design) : Type 0 where
   pub config : (bytes : List ℕ) × (configuration_of bytes ≡ Ok design.config)
   pub device : IsReadDevice design.device
+  pub grid : (let name = grid_name inputs.family design.config.device in parsed name most_json_bytes (read_grid name) (files name)) ≡ Ok design.device.grid
+  pub profile : parsed inputs.profile most_json_bytes (read_profile inputs.profile) (files inputs.profile) ≡ Ok design.device.profile
+  pub types : databases_in files inputs.family (types_of design.device.grid) ≡ Ok design.device.types
 
 -- what files give, where the profile is read, is read
 module _ (files : Files) (inputs : Inputs) (design : Design) (read_too : IsReadProfile design.device.profile) where
-  pub files_read : design_of files inputs ≡ Ok design → FilesRead design
+  pub files_read : design_of files inputs ≡ Ok design → FilesRead files inputs design
   unfolding design_of
   files_read h =
       let config = both (parsed inputs.config most_config_bytes (read_config inputs.config) (files inputs.config)) after_config design h in
@@ -98,8 +102,7 @@ module _ (files : Files) (inputs : Inputs) (design : Design) (read_too : IsReadP
       let profile = both (parsed inputs.profile most_json_bytes (read_profile inputs.profile) (files inputs.profile)) (after_profile config.0 grid.0) design grid.1.1 in
       let side = both (parsed inputs.side most_json_bytes (read_side inputs.side) (files inputs.side)) (after_side config.0 grid.0 profile.0) design profile.1.1 in
       let types = both (databases_in files inputs.family (types_of grid.0)) (made config.0 grid.0 profile.0 side.0) design side.1.1 in
-      of_parts config.0 grid.0 profile.0 side.0 types.0 (config_from inputs.config (files inputs.config) config.0 config.1.0) (grid_from (grid_at config.0) (files (grid_at config.0)) grid.0 grid.1.0)
-      (databases_from files inputs.family (types_of grid.0) types.0 types.1.0) types.1.1
+      of_parts config.0 grid.0 profile.0 side.0 types.0 (config_from inputs.config (files inputs.config) config.0 config.1.0) grid.1.0 profile.1.0 types.1.0 types.1.1
     where
       grid_at : Config → List ℕ
       grid_at config = grid_name inputs.family config.device
@@ -119,15 +122,21 @@ module _ (files : Files) (inputs : Inputs) (design : Design) (read_too : IsReadP
       after_config : Config → Result Design Refusal
       after_config config = parsed (grid_at config) most_json_bytes (read_grid (grid_at config)) (files (grid_at config)) >>= after_grid config
 
-      of_parts : (config : Config) (grid : Grid) (profile : Profile) (side : Side) (types : List TypeDb) → (bytes : List ℕ) × (configuration_of bytes ≡ Ok config) → IsReadGrid grid
-          → ((t : TypeDb) → In types t → IsReadDatabase t.db) → made config grid profile side types ≡ Ok design → FilesRead design
-      of_parts config grid profile side types c g ts e =
+      of_parts : (config : Config) (grid : Grid) (profile : Profile) (side : Side) (types : List TypeDb) → (bytes : List ℕ) × (configuration_of bytes ≡ Ok config)
+          → parsed (grid_at config) most_json_bytes (read_grid (grid_at config)) (files (grid_at config)) ≡ Ok grid
+          → parsed inputs.profile most_json_bytes (read_profile inputs.profile) (files inputs.profile) ≡ Ok profile
+          → databases_in files inputs.family (types_of grid) ≡ Ok types
+          → made config grid profile side types ≡ Ok design → FilesRead files inputs design
+      of_parts config grid profile side types c g p ts e =
           let same : record { config = config; device = record { grid = grid; types = types; profile = profile }; side = side } ≡ design = ok_same (record { config = config; device = record { grid = grid; types = types; profile = profile }; side = side }) design e in
           record {
             config = subst (λ (d : Design). (bytes : List ℕ) × (configuration_of bytes ≡ Ok d.config)) same c;
             device = record {
-              grid = subst (λ (d : Design). IsReadGrid d.device.grid) same g;
-              types = subst (λ (d : Design). (t : TypeDb) → In d.device.types t → IsReadDatabase t.db) same ts;
+              grid = subst (λ (d : Design). IsReadGrid d.device.grid) same (grid_from (grid_at config) (files (grid_at config)) grid g);
+              types = subst (λ (d : Design). (t : TypeDb) → In d.device.types t → IsReadDatabase t.db) same (databases_from files inputs.family (types_of grid) types ts);
               profile = read_too;
             };
+            grid = subst (λ (d : Design). parsed (grid_at d.config) most_json_bytes (read_grid (grid_at d.config)) (files (grid_at d.config)) ≡ Ok d.device.grid) same g;
+            profile = subst (λ (d : Design). parsed inputs.profile most_json_bytes (read_profile inputs.profile) (files inputs.profile) ≡ Ok d.device.profile) same p;
+            types = subst (λ (d : Design). databases_in files inputs.family (types_of d.device.grid) ≡ Ok d.device.types) same ts;
           }

@@ -111,20 +111,32 @@ with_line_rising line lines new named r =
     keys_from_lines (with_line line lines) (λ a i. elim (among line lines a i) [ inl e ↦ subst SinkNamed e new | inr j ↦ named a j ])
     (subst (IsRising arc_line_cmp) (put_in line lines) (inserted_rising arc_line_cmp arc_line_total line lines (lines_from_keys lines named r)))
 
+-- a line whose tile has a place, and whose mux and arc are there, isn't refused
+all_there : (g : Graph) (number : ℕ) (tile : Tile) (line : ArcLine) (place : ℕ × ℕ) (mux : ℕ) (arc : GraphArc) → tile.place ≡ Some place → mux_named g number line.sink ≡ Some mux
+    → arc_named g mux line.source ≡ Some arc → arc_faults g number tile line ≡ []
+all_there g number tile line place mux arc e f h =
+    ap (λ o. option_map_or (λ (q : ℕ × ℕ). arc_faults_in g number line) o (fault_at line.line NoPlace ∷ [])) e
+    ∙ (ap (λ o. option_map_or (source_fault g number line) o (fault_at line.line UnknownSink ∷ [])) f
+    ∙ ap (λ o. option_map_or (λ (x : GraphArc). let none : List LineFault = [] in none) o (fault_at line.line UnknownSource ∷ [])) h)
+
 module _ (device : Device) (g : Graph) (is : IsGraph device g) (read : IsReadDevice device) where
+  -- the tile of a mux that is found has a place
+  mux_place : (number : ℕ) (tile : Tile) (sink : List ℕ) (mux : ℕ) → slice_get g.grid.tiles number ≡ Some tile → mux_named g number sink ≡ Some mux → (place : ℕ × ℕ) × (tile.place ≡ Some place)
+  mux_place number tile sink mux there e =
+      let p = at_position (λ (x : GraphMux). (x.tile == number) && bytes_eq x.mux.sink sink) g.muxes mux e in
+      let s = mux_stands device g is p.0 (get_in g.muxes mux p.0 p.1.0) in
+      let at : p.0.tile ≡ number = eqb-true p.0.tile number (and_parts (p.0.tile == number) (bytes_eq p.0.mux.sink sink) p.1.1).0 in
+      let tiles : Some s.tile ≡ Some tile = sym s.in_tile ∙ (ap (λ x. slice_get x.tiles p.0.tile) (sym is.grid) ∙ (ap (slice_get g.grid.tiles) at ∙ there)) in
+      let same : s.tile ≡ tile = cc in
+      let place = then_from (λ place. named_wire (wire_of_name place p.0.mux.sink device.profile.rules)) s.tile.place s.sink.wire s.sink.named in
+      (place.0, subst (λ (t : Tile). t.place ≡ Some place.0) same place.1.0)
+
   -- a line that stands for an arc isn't refused
   no_fault : (number : ℕ) (tile : Tile) (line : ArcLine) (a : GraphArc) → slice_get g.grid.tiles number ≡ Some tile → arc_of_line g number line ≡ Some a → arc_faults g number tile line ≡ []
   no_fault number tile line a there e =
       let m = leads_to (λ mux. arc_named g mux line.source) (mux_named g number line.sink) a e in
-      let p = at_position (λ (x : GraphMux). (x.tile == number) && bytes_eq x.mux.sink line.sink) g.muxes m.0 m.1.0 in
-      let s = mux_stands device g is p.0 (get_in g.muxes m.0 p.0 p.1.0) in
-      let at : p.0.tile ≡ number = eqb-true p.0.tile number (and_parts (p.0.tile == number) (bytes_eq p.0.mux.sink line.sink) p.1.1).0 in
-      let tiles : Some s.tile ≡ Some tile = sym s.in_tile ∙ (ap (λ x. slice_get x.tiles p.0.tile) (sym is.grid) ∙ (ap (slice_get g.grid.tiles) at ∙ there)) in
-      let same : s.tile ≡ tile = cc in
-      let place = then_from (λ place. named_wire (wire_of_name place p.0.mux.sink device.profile.rules)) s.tile.place s.sink.wire s.sink.named in
-      ap (λ o. option_map_or (λ (q : ℕ × ℕ). arc_faults_in g number line) o (fault_at line.line NoPlace ∷ [])) (ap (λ (t : Tile). t.place) (sym same) ∙ place.1.0)
-      ∙ (ap (λ o. option_map_or (source_fault g number line) o (fault_at line.line UnknownSink ∷ [])) m.1.0
-      ∙ ap (λ o. option_map_or (λ (x : GraphArc). let none : List LineFault = [] in none) o (fault_at line.line UnknownSource ∷ [])) m.1.1)
+      let place = mux_place number tile line.sink m.0 there m.1.0 in
+      all_there g number tile line place.0 m.0 a place.1 m.1.0 m.1.1
 
   module _ (l : TileLine) (a : GraphArc) (stands : StandsForArc g l a) where
     place : TilePlace g l.tile

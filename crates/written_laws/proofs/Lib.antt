@@ -11,3 +11,4 @@ pub mod Moved
 pub mod Runs
 pub mod Sides
 pub mod Written
+pub mod Later

@@ -131,20 +131,26 @@ module _ (h : Hardening) (design : Design) (g : Graph) (cells : Cells) (may : Ma
       again_hardens : Hardens (configured_as design g cells) k
       again_hardens = subst (Hardens (configured_as design g cells)) same_configured (hardened_design_keeps_outputs job sound log y n answer)
 
+    -- the bytes harden the design, and name its device
+    pub named_hardened : (a : AreHardened design g cells (config_text y.config) (side_text y.side)) × (a.again.config.device ≡ design.config.device)
+    named_hardened =
+        let r = printed_read y.config written_text_formed in (
+          record {
+            again = again r.0 r.1.1;
+            its_cells = y.cells;
+            text_read = r.1.0;
+            side_read = side_read_back y.side written_side_formed;
+            device = refl;
+            cells_there = cells_read r.0 r.1.1;
+            passes = sound_passes (again r.0 r.1.1) g y.cells (is_sound r.0 r.1.1) may.small
+                (not_refused g y.config r.0 r.1.1 (printed_lines y.config r.0 written_text_formed r.1.0) lines_pass);
+            hardens = again_hardens r.0 r.1.1;
+          },
+          r.1.1.device ∙ text_writable.device,
+        )
+
     pub are_hardened : AreHardened design g cells (config_text y.config) (side_text y.side)
-    are_hardened =
-        let r = printed_read y.config written_text_formed in
-        record {
-          again = again r.0 r.1.1;
-          its_cells = y.cells;
-          text_read = r.1.0;
-          side_read = side_read_back y.side written_side_formed;
-          device = refl;
-          cells_there = cells_read r.0 r.1.1;
-          passes = sound_passes (again r.0 r.1.1) g y.cells (is_sound r.0 r.1.1) may.small
-              (not_refused g y.config r.0 r.1.1 (printed_lines y.config r.0 written_text_formed r.1.0) lines_pass);
-          hardens = again_hardens r.0 r.1.1;
-        }
+    are_hardened = named_hardened.0
 
 -- over the outcomes of a run
 pub outcome_hardened : (files : Files) (inputs : Inputs) (h : Hardening) (o : Outcome) → IsOutcome files (Harden inputs h) o → o.status ≡ Done → WritesHardened files inputs h o

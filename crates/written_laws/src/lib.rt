@@ -20,7 +20,7 @@ ghost use Rattle.side_form.specs.SidePrint.{side_text};
 ghost use Rattle.std.specs.Prelude.{List, None, ℕ, ◌≡◌};
 ghost use Rattle.text_laws.specs.Formed.{IsFormedSide, IsFormedText};
 ghost use Rattle.written_laws.specs.Writable.{IsWritable};
-ghost use Rattle.written_laws.specs.Written.{MayBeHardened, WritesHardened};
+ghost use Rattle.written_laws.specs.Written.{AcceptsHardened, IsLaterRun, MayBeHardened, WritesHardened};
 
 /// An accepted design may be hardened: it is a sound job, its device and its text are read, and its checks pass.
 pub fn accepted_design_may_be_hardened()
@@ -62,4 +62,12 @@ pub fn what_is_written_is_hardened()
 pub fn what_a_run_writes_is_hardened()
     ensures { (files : Files) (inputs : Inputs) (h : Hardening) (o : Outcome) → IsOutcome files (Harden inputs h) o → o.status ≡ Done
         → WritesHardened files inputs h o }
+{}
+
+/// A later run over what was written, with the files of the device as they stood, accepts it as a design that hardens the
+/// one that was read, where the text and the side file aren't too long to be read.
+pub fn what_is_written_is_accepted()
+    ensures { (files later : Files) (inputs again : Inputs) (h : Hardening) (design : Design) (g : Graph) (cells : Cells) → IsAccepted files inputs design g cells
+        → (log : List Event) (y : Layout) (n : ℕ) → IsAnswer (job_of design g cells h) (Ended log (Routed y n))
+        → IsLaterRun files later inputs again design.config.device (config_text y.config) (side_text y.side) → AcceptsHardened later again design g cells }
 {}

@@ -1,0 +1,121 @@
+-- A later run accepts what was written.
+use Rattle.std.proofs.Common.{◌≡◌, ◌≤◌, ℕ, List, [], ◌∷◌, length, Option, Some, cond, refl, sym, ap, ap₂, subst, ◌∙◌, le-ltb}
+use Rattle.std.specs.Prelude.{Result, Ok, Err, if◌then◌else◌}
+use Rattle.records.specs.Grid.{Grid}
+use Rattle.records.specs.Profile.{Profile}
+use Rattle.records.specs.Side.{Side}
+use Rattle.records.specs.Config.{Config}
+use Rattle.records.specs.Database.{TileDb}
+use Rattle.fabric.specs.Device.{TypeDb}
+use Rattle.fabric.specs.Graph.{Graph}
+use Rattle.fabric.specs.GraphOf.{IsGraph}
+use Rattle.circuit.specs.Cells.{Cells}
+use Rattle.json_forms.specs.Results.{◌>>=◌}
+use Rattle.config_grammar.specs.ConfigText.{configuration_of}
+use Rattle.config_grammar.specs.ConfigPrint.{config_text}
+use Rattle.side_form.specs.Side.{side_of}
+use Rattle.side_form.specs.SidePrint.{side_text}
+use Rattle.answers.specs.Refusals.{Refusal, TooLong}
+use Rattle.commands.specs.Commands.{Inputs, Hardening}
+use Rattle.repair.specs.Layouts.{Layout}
+use Rattle.attempts.specs.Attempts.{Event, Routed, IsAnswer, Ended}
+use Rattle.design_files.specs.Names.{most_config_bytes, most_json_bytes, grid_name, database_name, types_of}
+use Rattle.design_files.specs.Parsed.{Files, or_refused, parsed, config_refusal, side_refusal, read_config, read_grid, read_profile, read_side}
+use Rattle.design_files.specs.Designs.{Design, database_in, databases_in, design_of}
+use Rattle.design_checks.specs.DesignChecks.{IsAccepted}
+use Rattle.design_answers.specs.Outcomes.{job_of}
+use Rattle.hardening_laws.proofs.Reading.{FilesRead, files_read}
+use Rattle.check_laws.proofs.Accepted.{accepted_sound}
+use Rattle.written_laws.specs.Written.{IsLaterRun, AcceptsHardened}
+use Rattle.written_laws.proofs.Written.{accepted_may_be_hardened, named_hardened}
+
+-- one step of a reading after another
+then_ok : {A B F : Type 0} (r : Result A F) (f : A → Result B F) (a : A) (b : B) → r ≡ Ok a → f a ≡ Ok b → (r >>= f) ≡ Ok b
+then_ok r f a b e k = ap (λ z. z >>= f) e ∙ k
+
+-- a file that is there and short is read
+short_read : {X : Type 0} (name : List ℕ) (most : ℕ) (read : List ℕ → Result X Refusal) (o : Option (List ℕ)) (bytes : List ℕ) (x : X) → o ≡ Some bytes → length bytes ≤ most → read bytes ≡ Ok x
+    → parsed name most read o ≡ Ok x
+short_read name most read o bytes x there short e =
+    ap (parsed name most read) there ∙ (ap (λ b. if b then Err (TooLong name) else read bytes) (le-ltb most (length bytes) short) ∙ e)
+
+same_databases : (files later : Files) (family : List ℕ) → ((kind : List ℕ) → later (database_name family kind) ≡ files (database_name family kind))
+    → (kinds : List (List ℕ)) → databases_in later family kinds ≡ databases_in files family kinds
+same_databases files later family stand [] = refl
+same_databases files later family stand (kind ∷ kinds) =
+    ap₂ (λ (o : Option (List ℕ)) (ds : Result (List TypeDb) Refusal). database_in (database_name family kind) o >>= λ db. ds >>= λ rest. Ok (record { kind = kind; db = db } ∷ rest))
+    (stand kind) (same_databases files later family stand kinds)
+
+module _ (files later : Files) (inputs again : Inputs) (design : Design) (text side : List ℕ) (read : FilesRead files inputs design) (run : IsLaterRun files later inputs again design.config.device text side)
+    (config : Config) (its_side : Side) (text_read : configuration_of text ≡ Ok config) (side_read : side_of side ≡ Ok its_side) (same_device : config.device ≡ design.config.device) where
+  abbrev grid_at : Config → List ℕ
+  grid_at c = grid_name again.family c.device
+
+  abbrev made : Config → Grid → Profile → Side → List TypeDb → Result Design Refusal
+  made c grid profile s types = Ok (record { config = c; device = record { grid = grid; types = types; profile = profile }; side = s })
+
+  abbrev after_side : Config → Grid → Profile → Side → Result Design Refusal
+  after_side c grid profile s = databases_in later again.family (types_of grid) >>= made c grid profile s
+
+  abbrev after_profile : Config → Grid → Profile → Result Design Refusal
+  after_profile c grid profile = parsed again.side most_json_bytes (read_side again.side) (later again.side) >>= after_side c grid profile
+
+  abbrev after_grid : Config → Grid → Result Design Refusal
+  after_grid c grid = parsed again.profile most_json_bytes (read_profile again.profile) (later again.profile) >>= after_profile c grid
+
+  abbrev after_config : Config → Result Design Refusal
+  after_config c = parsed (grid_at c) most_json_bytes (read_grid (grid_at c)) (later (grid_at c)) >>= after_grid c
+
+  abbrev its : Design
+  its = record { config = config; device = design.device; side = its_side }
+
+  config_there : parsed again.config most_config_bytes (read_config again.config) (later again.config) ≡ Ok config
+  config_there = short_read again.config most_config_bytes (read_config again.config) (later again.config) text config run.text_there run.short_text (ap (or_refused (config_refusal again.config)) text_read)
+
+  side_there : parsed again.side most_json_bytes (read_side again.side) (later again.side) ≡ Ok its_side
+  side_there = short_read again.side most_json_bytes (read_side again.side) (later again.side) side its_side run.side_there run.short_side (ap (or_refused (side_refusal again.side)) side_read)
+
+  grid_there : parsed (grid_at config) most_json_bytes (read_grid (grid_at config)) (later (grid_at config)) ≡ Ok design.device.grid
+  grid_there =
+      let name = grid_name inputs.family design.config.device in
+      ap (λ n. parsed n most_json_bytes (read_grid n) (later n)) (ap₂ grid_name run.family same_device)
+      ∙ (ap (parsed name most_json_bytes (read_grid name)) run.grid_stands ∙ read.grid)
+
+  profile_there : parsed again.profile most_json_bytes (read_profile again.profile) (later again.profile) ≡ Ok design.device.profile
+  profile_there =
+      ap (λ n. parsed n most_json_bytes (read_profile n) (later n)) run.profile
+      ∙ (ap (parsed inputs.profile most_json_bytes (read_profile inputs.profile)) run.profile_stands ∙ read.profile)
+
+  types_there : databases_in later again.family (types_of design.device.grid) ≡ Ok design.device.types
+  types_there =
+      ap (λ f. databases_in later f (types_of design.device.grid)) run.family ∙ (same_databases files later inputs.family run.databases_stand (types_of design.device.grid) ∙ read.types)
+
+  design_there : design_of later again ≡ Ok its
+  unfolding design_of
+  design_there =
+      then_ok (parsed again.config most_config_bytes (read_config again.config) (later again.config)) after_config config its config_there
+      (then_ok (parsed (grid_at config) most_json_bytes (read_grid (grid_at config)) (later (grid_at config))) (after_grid config) design.device.grid its grid_there
+      (then_ok (parsed again.profile most_json_bytes (read_profile again.profile) (later again.profile)) (after_profile config design.device.grid) design.device.profile its profile_there
+      (then_ok (parsed again.side most_json_bytes (read_side again.side) (later again.side)) (after_side config design.device.grid design.device.profile) its_side its side_there
+      (then_ok (databases_in later again.family (types_of design.device.grid)) (made config design.device.grid design.device.profile its_side) design.device.types its types_there refl))))
+
+pub later_accepts : (files later : Files) (inputs again : Inputs) (h : Hardening) (design : Design) (g : Graph) (cells : Cells) → IsAccepted files inputs design g cells
+    → (log : List Event) (y : Layout) (n : ℕ) → IsAnswer (job_of design g cells h) (Ended log (Routed y n))
+    → IsLaterRun files later inputs again design.config.device (config_text y.config) (side_text y.side) → AcceptsHardened later again design g cells
+later_accepts files later inputs again h design g cells accepted log y n answer run =
+    let named = named_hardened h design g cells (accepted_may_be_hardened files inputs h design g cells accepted) log y n answer in
+    let a = named.0 in
+    let read = files_read files inputs design (accepted_sound files inputs design g cells accepted).read.profile accepted.read in
+    let its : Design = record { config = a.again.config; device = design.device; side = a.again.side } in
+    let same : its ≡ a.again = sym (λ i. let d : Design = record { config = a.again.config; device = a.device i; side = a.again.side } in d) in
+    record {
+      again = a.again;
+      its_cells = a.its_cells;
+      accepted = record {
+        read = design_there files later inputs again design (config_text y.config) (side_text y.side) read run a.again.config a.again.side a.text_read a.side_read named.1 ∙ ap (λ d. Ok d) same;
+        graph = subst (λ d. IsGraph d g) (sym a.device) accepted.graph;
+        cells_there = a.cells_there;
+        passes = a.passes;
+      };
+      hardens = a.hardens;
+    }
