@@ -92,8 +92,7 @@ pub fn name_or_empty(alloc: Global, value: &Value) -> Result<Option<Name>, FormE
     Ok(Some(named(alloc, text.as_bytes())?))
 }
 
-/// The whole number from 0 up to `most` that a value is; `None` where it is no number, none that is whole, or a greater
-/// one.
+/// The whole number from 0 up to `most` that a value is; `None` where it is another number, or no number.
 pub fn whole(value: &Value, most: u32) -> Option<u32>
     ensures number { result ≡ whole_in most (view value.now) }
     ensures within { IfSome result (λ n. n ≤ most) }
