@@ -1,5 +1,5 @@
 -- Faults that are looked for in turn, and readings one after another.
-use Rattle.std.proofs.Common.{◌≡◌, Option, Some, None, Result, Ok, Err, IfSome, refl, ap, ◌∙◌}
+use Rattle.std.proofs.Common.{◌≡◌, Option, Some, None, Result, Ok, Err, IfSome, ap, ◌∙◌}
 use Rattle.words.specs.Firsts.{or_else}
 use Rattle.json_forms.specs.Results.{◌>>=◌, unless_fault}
 

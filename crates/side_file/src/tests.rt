@@ -1,4 +1,4 @@
-use crate::{SideError, print, read};
+use crate::{Side, SideError, print, read};
 use std::alloc::Global;
 use std::test::Fail;
 
@@ -10,12 +10,26 @@ fn toggle() -> &'static str {
     TOGGLE
 }
 
+fn toggle_side(alloc: Global) -> Result<Side, Fail> {
+    Ok(read(alloc, toggle().as_bytes()).ok().ok_or("a side file")?)
+}
+
+// Whether a side file is printed as the text.
+fn is_toggle(alloc: Global, side: &Side) -> Result<bool, Fail> {
+    Ok(print(alloc, side)?.as_slice() == toggle().as_bytes())
+}
+
 #[test]
 fn a_side_file_is_printed_as_it_was_read(rt: HostRuntime) -> Result<(), Fail> {
-    let side = read(rt.alloc(), toggle().as_bytes())?;
-    assert!(rt; print(rt.alloc(), &side)?.as_slice() == toggle().as_bytes());
-    let copy = side.copy(rt.alloc())?;
-    assert!(rt; print(rt.alloc(), &copy)?.as_slice() == toggle().as_bytes());
+    let side = toggle_side(rt.alloc())?;
+    assert!(rt; is_toggle(rt.alloc(), &side)?);
+    Ok(())
+}
+
+#[test]
+fn a_copy_is_printed_as_the_side_file(rt: HostRuntime) -> Result<(), Fail> {
+    let copy = toggle_side(rt.alloc())?.copy(rt.alloc())?;
+    assert!(rt; is_toggle(rt.alloc(), &copy)?);
     Ok(())
 }
 
