@@ -5,6 +5,8 @@
 //! labelled wires are the least cut (`rims`).
 #![tactic(auto)]
 
+mod clear;
+mod front;
 mod marks;
 mod queue;
 mod rims;

@@ -90,13 +90,6 @@ impl Queue {
         }
     }
 
-    /// Lets no wire wait.
-    pub fn clear(&mut self)
-        ensures { self.new ≡ replicate (length self.old) far }
-    {
-        self.cells.fill(FAR);
-    }
-
     /// Lets a wire wait under a key.
     pub fn set(&mut self, w: WireId, key: u64)
         requires { w < length self.old }

@@ -1,6 +1,6 @@
 //! Lists with an element for each wire.
 
-ghost use Rattle.std.specs.Prelude.{◌≡◌, ◌<◌, length, slice_index, slice_set, true, false, get_or};
+ghost use Rattle.std.specs.Prelude.{◌≡◌, ◌<◌, length, slice_index, slice_set};
 
 use rr_ids::{Id, WireId};
 
@@ -18,12 +18,4 @@ pub(crate) fn put_at(values: &mut [u64], w: WireId, value: u64)
     ensures { values.new ≡ slice_set values.old w value }
 {
     values[w.to_u32() as usize] = value;
-}
-
-// Marks a wire.
-pub(crate) fn mark_at(marks: &mut [bool], w: WireId)
-    requires { w < length marks.old }
-    ensures { marks.new ≡ slice_set marks.old w true }
-{
-    marks[w.to_u32() as usize] = true;
 }

@@ -5,9 +5,9 @@ use Rattle.path_search.proofs.marks.follow.Given as goal
 
 abbrev pub invariant-loop-at : goal.invariant-loop-at
 invariant-loop-at g l = record {
-  mark : AtMark (g.L.Links.wiring l.links) l.best l.at;
+  mark : AtMark (g.L.Links.wiring l.links) l.marks l.at;
   near : l.at < far;
-  tail : (ps : List ℕ) → Follows (g.L.Links.wiring l.links) l.best l.at ps → Follows (g.L.Links.wiring l.links) l.best l.fn.first (l.out.items ++ ps);
+  tail : (ps : List ℕ) → Follows (g.L.Links.wiring l.links) l.marks l.at ps → Follows (g.L.Links.wiring l.links) l.marks l.fn.first (l.out.items ++ ps);
 }
 
 abbrev pub decreases-loop-at : goal.decreases-loop-at

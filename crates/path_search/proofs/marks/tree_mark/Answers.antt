@@ -8,7 +8,7 @@ pub value_at-requires : goal.value_at-requires
 value_at-requires c = c.requires _ (met c.args.tree.now c.loop-t.t-index c.t-item.result c.loop-t-test.true c.t-item.is)
 
 pub loop-t-preserved : goal.loop-t-preserved
-loop-t-preserved c = one_mark_more far c.args.tree.now c.args.best.now c.loop-t.t-index c.loop-t.value c.t-item.result c.value_at.result c.min-value.result c.loop-t.invariant c.loop-t-test.true c.t-item.is c.value_at.ensures c.min-value.ensures
+loop-t-preserved c = one_mark_more far c.args.tree.now c.args.marks.now c.loop-t.t-index c.loop-t.mark c.t-item.result c.value_at.result c.min-mark.result c.loop-t.invariant c.loop-t-test.true c.t-item.is c.value_at.ensures c.min-mark.ensures
 
 pub returns : goal.returns
-returns c = all_marks far c.args.tree.now c.args.best.now c.loop-t.t-index c.loop-t.value (let t = c.loop-t-test.false in omega arith) c.loop-t.invariant
+returns c = all_marks far c.args.tree.now c.args.marks.now c.loop-t.t-index c.loop-t.mark (let t = c.loop-t-test.false in omega arith) c.loop-t.invariant

@@ -1,13 +1,9 @@
-use Rattle.std.proofs.Common.{◌≡◌, ◌*◌, ◌-◌, ◌≤◌}
-use Rattle.path_search.specs.Labels.{Search, far, count}
+use Rattle.std.proofs.Common.{◌-◌, length}
+use Rattle.path_search.specs.Fronts.{Searches}
 use Rattle.path_search.proofs.settle.settle.Given as goal
 
 abbrev pub invariant-loop-w : goal.invariant-loop-w
-invariant-loop-w g l = record {
-  search : Search (g.L.Links.wiring l.links) (g.R.PathRules.rules l.rules) l.tree far (l.step * 4294967295) l.labels l.queue l.done;
-  counted : count l.done ≡ l.step;
-  few : l.step ≤ (g.L.Links.wiring l.links).wires;
-}
+invariant-loop-w g l = Searches (g.L.Links.wiring l.links) (g.R.PathRules.rules l.rules) l.tree l.front
 
 abbrev pub decreases-loop-w : goal.decreases-loop-w
-decreases-loop-w g l = (g.L.Links.wiring l.links).wires - l.step
+decreases-loop-w g l = (g.L.Links.wiring l.links).wires - length l.front.settled.items
