@@ -1,2 +1,4 @@
 pub mod CrossedMeets
 pub mod Hardened
+pub mod Written
+pub mod AcceptedFiles

@@ -2,13 +2,21 @@
 //! contract of a function with an empty body.
 #![tactic(auto)]
 
-ghost use Rattle.design_answers.specs.Headline.{Hardens};
+ghost use Rattle.config_grammar.specs.ConfigPrint.{config_text};
+ghost use Rattle.design_answers.specs.Headline.{AreHardened, Hardens};
+ghost use Rattle.design_checks.specs.DesignChecks.{IsAccepted};
+ghost use Rattle.design_files.specs.Designs.{Design};
 ghost use Rattle.fabric_laws.specs.PlainGraph.{graph_of};
+ghost use Rattle.hardening_examples.specs.CrossedDesign.{crossed_design, in_one_attempt};
+ghost use Rattle.hardening_examples.specs.CrossedFiles.{crossed_files, crossed_inputs};
 ghost use Rattle.headline_laws.specs.Sound.{IsSoundJob};
 ghost use Rattle.mini.specs.MiniA.{mini_a};
-ghost use Rattle.mini.specs.Toggle.{crossed, toggle};
+ghost use Rattle.mini.specs.Toggle.{crossed, toggle, toggle_side};
+ghost use Rattle.mini.specs.ToggleCells.{toggle_cells};
 ghost use Rattle.repair.specs.Layouts.{configured};
 ghost use Rattle.route_examples.specs.Crossed.{crossed_job, with_cells};
+ghost use Rattle.side_form.specs.SidePrint.{side_text};
+ghost use Rattle.written_laws.specs.Written.{MayBeHardened};
 
 /// The crossed toggle is a design that is read on a device that names nothing twice; it is clean, agreeing, fed from
 /// named cells alone and triplicated, though one bit of it is bad.
@@ -20,4 +28,16 @@ pub fn crossed_is_a_sound_job()
 /// routing-mux bit of the toggle two of its three outputs at least are those of the crossed one undisturbed.
 pub fn toggle_hardens_crossed()
     ensures { let g = graph_of mini_a in Hardens (configured (with_cells g crossed)) (configured (with_cells g toggle)) }
+{}
+
+/// It may be hardened, and the bytes of the toggle and its side file do harden it: they are read as a design that passes all
+/// checks and does so.
+pub fn toggle_bytes_harden_crossed()
+    ensures may { let g = graph_of mini_a in MayBeHardened crossed_design g (toggle_cells g) in_one_attempt }
+    ensures hardened { let g = graph_of mini_a in AreHardened crossed_design g (toggle_cells g) (config_text toggle) (side_text toggle_side) }
+{}
+
+/// Its printed text, its side file and the files of MINI-A are accepted, with its cells.
+pub fn crossed_is_accepted()
+    ensures { let g = graph_of mini_a in (design : Design) × IsAccepted crossed_files crossed_inputs design g (toggle_cells g) }
 {}

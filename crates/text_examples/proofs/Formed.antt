@@ -15,19 +15,19 @@ use Rattle.config_grammar.specs.ConfigText.{arc_key}
 use Rattle.mini.specs.Toggle.{toggle}
 use Rattle.text_laws.specs.Formed.{LinesCanStand, IsFormedSection, IsFormedText}
 
-abbrev is_arc_line : ArcLine → Bool
+abbrev pub is_arc_line : ArcLine → Bool
 is_arc_line a = is_name a.sink && is_name a.source
 
-abbrev is_word_line : WordLine → Bool
+abbrev pub is_word_line : WordLine → Bool
 is_word_line w = is_name w.name && nat_lt 0 (length w.bits)
 
-abbrev is_enum_line : EnumLine → Bool
+abbrev pub is_enum_line : EnumLine → Bool
 is_enum_line e = is_name e.name && is_name e.value
 
-abbrev is_unknown_line : UnknownLine → Bool
+abbrev pub is_unknown_line : UnknownLine → Bool
 is_unknown_line u = nat_le u.frame 65535 && nat_le u.bit 65535
 
-abbrev lines_stand : TileText → Bool
+abbrev pub lines_stand : TileText → Bool
 lines_stand t = (list_all is_arc_line t.arcs && list_all is_word_line t.words) && (list_all is_enum_line t.enums && list_all is_unknown_line t.unknowns)
 
 -- ---- the tests are right
@@ -44,10 +44,10 @@ lines_right t h =
       unknowns = λ u i. (let p = and_parts (nat_le u.frame 65535) (nat_le u.bit 65535) (all_from is_unknown_line t.unknowns second.1 u i) in (leb-true u.frame 65535 p.0, leb-true u.bit 65535 p.1));
     }
 
-abbrev section_stands : TileText → Bool
+abbrev pub section_stands : TileText → Bool
 section_stands t = is_name t.tile && lines_stand t
 
-section_right : (t : TileText) → section_stands t ≡ true → IsFormedSection t
+pub section_right : (t : TileText) → section_stands t ≡ true → IsFormedSection t
 section_right t h = let p = and_parts (is_name t.tile) (lines_stand t) h in record { name = p.0; lines = lines_right t p.1 }
 
 less_right : (o : Ordering) → is_lt o ≡ true → o ≡ Less
@@ -55,11 +55,11 @@ less_right Less h = refl
 less_right Equal h = absurd (false≢true h)
 less_right Greater h = absurd (false≢true h)
 
-abbrev are_rising : List (List ℕ) → Bool
+abbrev pub are_rising : List (List ℕ) → Bool
 are_rising [] = true
 are_rising (k ∷ ks) = list_all (λ l. is_lt (name_cmp k l)) ks && are_rising ks
 
-rising_right : (ks : List (List ℕ)) → are_rising ks ≡ true → IsRising name_cmp ks
+pub rising_right : (ks : List (List ℕ)) → are_rising ks ≡ true → IsRising name_cmp ks
 rising_right [] h = tt
 rising_right (k ∷ ks) h =
     let p = and_parts (list_all (λ l. is_lt (name_cmp k l)) ks) (are_rising ks) h in

@@ -1,5 +1,5 @@
 -- A text that may be written stays one with the lines of arcs of the graph.
-use Rattle.std.proofs.Common.{◌≡◌, ◌⊎◌, ◌≤◌, ◌<◌, ℕ, Bool, true, false, inl, inr, List, [], ◌∷◌, ◌++◌, map, Option, Some, cond, refl, sym, ap, subst, ◌∙◌, arith, lt-ltb, le-ltb, ne_eqb, eqb-true}
+use Rattle.std.proofs.Common.{◌≡◌, ◌⊎◌, ◌≤◌, ℕ, true, inl, inr, List, [], ◌∷◌, ◌++◌, map, Some, cond, refl, sym, ap, subst, ◌∙◌, arith, lt-ltb, le-ltb, ne_eqb, eqb-true}
 use Rattle.std.specs.Prelude.{slice_get, ◌==◌, ◌&&◌}
 use Rattle.std.specs.Option.{option_and_then, option_map_or}
 use Rattle.std.specs.List.{list_all}
@@ -30,7 +30,7 @@ use Rattle.fabric_laws.proofs.Standing.{mux_stands}
 use Rattle.config_grammar.specs.ConfigText.{arc_key}
 use Rattle.answers.specs.Refusals.{NoPlace, UnknownSink, UnknownSource}
 use Rattle.design_checks.specs.LineChecks.{LineFault, fault_at, source_fault, arc_faults_in, arc_faults}
-use Rattle.repair.specs.Lines.{TileLine, line_of_arc, arc_line_cmp, with_line, text_with_line, text_of_line, texts_with_line, with_texts, with_arc_line, with_arc_lines}
+use Rattle.repair.specs.Lines.{TileLine, arc_line_cmp, with_line, text_with_line, text_of_line, texts_with_line, with_texts, with_arc_line, with_arc_lines}
 use Rattle.layout_laws.specs.Named.{NamesOnce}
 use Rattle.layout_laws.specs.MoreLines.{StandsForArc}
 use Rattle.layout_laws.proofs.Named.{own_line}

@@ -1,5 +1,5 @@
 -- No line of a text is refused exactly where each section names what is there.
-use Rattle.std.proofs.Common.{◌≡◌, ℕ, zero, suc, inl, inr, List, [], ◌∷◌, ◌++◌, map, flat_map, Option, Some, None, option_map, refl, sym, ap, ◌∙◌}
+use Rattle.std.proofs.Common.{◌≡◌, ℕ, zero, suc, List, [], ◌∷◌, ◌++◌, map, flat_map, Option, Some, None, option_map, refl, sym, ap, ◌∙◌}
 use Rattle.std.specs.Prelude.{slice_get}
 use Rattle.std.specs.Option.{option_map_or}
 use Rattle.std.specs.Str.{bytes_eq}
@@ -8,7 +8,6 @@ use Rattle.records.specs.Grid.{Tile}
 use Rattle.records.specs.Config.{TileText, Config}
 use Rattle.fabric.specs.InOrder.{IsRising}
 use Rattle.fabric.specs.Wires.{name_cmp}
-use Rattle.fabric.specs.Settings.{Settings}
 use Rattle.fabric.specs.Device.{Device}
 use Rattle.fabric.specs.Graph.{Graph}
 use Rattle.fabric.specs.GraphOf.{settings_in, IsGraph}

@@ -1,7 +1,6 @@
 -- The tiles of a grid that is read have names, and are few; the kinds of slices of a profile that is read have names.
-use Rattle.std.proofs.Common.{◌≡◌, ◌≤◌, ℕ, Bool, true, false, List, [], ◌∷◌, filter_map, length, Option, Some, None, refl, sym, ap, subst, ◌∙◌}
+use Rattle.std.proofs.Common.{◌≡◌, ◌≤◌, ℕ, Bool, true, false, List, filter_map, length, Option, Some, None, refl, sym, ap, subst}
 use Rattle.std.specs.Prelude.{Result, Ok, Err, codes, nat_lt, if◌then◌else◌}
-use Rattle.std.specs.Option.{ok_or, option_and_then}
 use Rattle.std.specs.Result.{result_ok, result_err}
 use Rattle.std.proofs.lemmas.Bool.{ltb-false}
 use Rattle.serde_json.specs.Data.{Data}
@@ -11,7 +10,7 @@ use Rattle.words.specs.Firsts.{first_fault}
 use Rattle.texts.specs.Names.{is_name}
 use Rattle.records.specs.Limits.{Place, Tiles, Types}
 use Rattle.records.specs.Grid.{Tile, Grid}
-use Rattle.records.specs.Profile.{Require, TableKind, RegisterKind, SliceKind, Profile}
+use Rattle.records.specs.Profile.{Require, TableKind, RegisterKind, SliceKind}
 use Rattle.json_forms.specs.Faults.{FormFault, NotJson, BadShape, TooLarge}
 use Rattle.json_forms.specs.Options.{◌>>=◌}
 use Rattle.json_forms.specs.Results as results
@@ -20,11 +19,11 @@ use Rattle.json_forms.specs.Values.{Member, member_in, if_name, name_in, reading
 use Rattle.json_forms.specs.Parts.{list_of}
 use Rattle.json_forms.specs.Places.{place_of}
 use Rattle.json_forms.specs.Tiles.{tile_number_in, tile_in, place_fits, tile_of}
-use Rattle.json_forms.specs.Grid.{most_tiles, most_types, type_count, count_fault, grid_with, grid_of_members, grid_of_value, top_key}
+use Rattle.json_forms.specs.Grid.{most_tiles, most_types, type_count, count_fault, grid_with, grid_of_members, top_key}
 use Rattle.json_forms.specs.Kinds.{require_in, table_in, register_in, slice_in}
 use Rattle.fabric_laws.proofs.Members.{in_filter_map_from}
 use Rattle.cells_laws.proofs.Options.{then_from}
-use Rattle.formed_laws.specs.Readers.{IsReadGrid, IsReadProfile}
+use Rattle.formed_laws.specs.Readers.{IsReadGrid}
 use Rattle.formed_laws.proofs.Results.{both, no_fault}
 
 name_is : (text name : List ℕ) → if_name text ≡ Some name → is_name name ≡ true

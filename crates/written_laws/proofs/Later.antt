@@ -1,11 +1,10 @@
 -- A later run accepts what was written.
-use Rattle.std.proofs.Common.{◌≡◌, ◌≤◌, ℕ, List, [], ◌∷◌, length, Option, Some, cond, refl, sym, ap, ap₂, subst, ◌∙◌, le-ltb}
+use Rattle.std.proofs.Common.{◌≡◌, ◌≤◌, ℕ, List, [], ◌∷◌, length, Option, Some, refl, sym, ap, ap₂, subst, ◌∙◌, le-ltb}
 use Rattle.std.specs.Prelude.{Result, Ok, Err, if◌then◌else◌}
 use Rattle.records.specs.Grid.{Grid}
 use Rattle.records.specs.Profile.{Profile}
 use Rattle.records.specs.Side.{Side}
 use Rattle.records.specs.Config.{Config}
-use Rattle.records.specs.Database.{TileDb}
 use Rattle.fabric.specs.Device.{TypeDb}
 use Rattle.fabric.specs.Graph.{Graph}
 use Rattle.fabric.specs.GraphOf.{IsGraph}
@@ -34,7 +33,7 @@ then_ok : {A B F : Type 0} (r : Result A F) (f : A → Result B F) (a : A) (b : 
 then_ok r f a b e k = ap (λ z. z >>= f) e ∙ k
 
 -- a file that is there and short is read
-short_read : {X : Type 0} (name : List ℕ) (most : ℕ) (read : List ℕ → Result X Refusal) (o : Option (List ℕ)) (bytes : List ℕ) (x : X) → o ≡ Some bytes → length bytes ≤ most → read bytes ≡ Ok x
+pub short_read : {X : Type 0} (name : List ℕ) (most : ℕ) (read : List ℕ → Result X Refusal) (o : Option (List ℕ)) (bytes : List ℕ) (x : X) → o ≡ Some bytes → length bytes ≤ most → read bytes ≡ Ok x
     → parsed name most read o ≡ Ok x
 short_read name most read o bytes x there short e =
     ap (parsed name most read) there ∙ (ap (λ b. if b then Err (TooLong name) else read bytes) (le-ltb most (length bytes) short) ∙ e)
@@ -46,58 +45,73 @@ same_databases files later family stand (kind ∷ kinds) =
     ap₂ (λ (o : Option (List ℕ)) (ds : Result (List TypeDb) Refusal). database_in (database_name family kind) o >>= λ db. ds >>= λ rest. Ok (record { kind = kind; db = db } ∷ rest))
     (stand kind) (same_databases files later family stand kinds)
 
-module _ (files later : Files) (inputs again : Inputs) (design : Design) (text side : List ℕ) (read : FilesRead files inputs design) (run : IsLaterRun files later inputs again design.config.device text side)
-    (config : Config) (its_side : Side) (text_read : configuration_of text ≡ Ok config) (side_read : side_of side ≡ Ok its_side) (same_device : config.device ≡ design.config.device) where
+-- files give a design, where each of them gives its part
+module _ (files : Files) (inputs : Inputs) (config : Config) (grid : Grid) (profile : Profile) (side : Side) (types : List TypeDb)
+    (config_there : parsed inputs.config most_config_bytes (read_config inputs.config) (files inputs.config) ≡ Ok config)
+    (grid_there : (let name = grid_name inputs.family config.device in parsed name most_json_bytes (read_grid name) (files name)) ≡ Ok grid)
+    (profile_there : parsed inputs.profile most_json_bytes (read_profile inputs.profile) (files inputs.profile) ≡ Ok profile)
+    (side_there : parsed inputs.side most_json_bytes (read_side inputs.side) (files inputs.side) ≡ Ok side) (types_there : databases_in files inputs.family (types_of grid) ≡ Ok types) where
   abbrev grid_at : Config → List ℕ
-  grid_at c = grid_name again.family c.device
+  grid_at c = grid_name inputs.family c.device
 
   abbrev made : Config → Grid → Profile → Side → List TypeDb → Result Design Refusal
-  made c grid profile s types = Ok (record { config = c; device = record { grid = grid; types = types; profile = profile }; side = s })
+  made c g p s ts = Ok (record { config = c; device = record { grid = g; types = ts; profile = p }; side = s })
 
   abbrev after_side : Config → Grid → Profile → Side → Result Design Refusal
-  after_side c grid profile s = databases_in later again.family (types_of grid) >>= made c grid profile s
+  after_side c g p s = databases_in files inputs.family (types_of g) >>= made c g p s
 
   abbrev after_profile : Config → Grid → Profile → Result Design Refusal
-  after_profile c grid profile = parsed again.side most_json_bytes (read_side again.side) (later again.side) >>= after_side c grid profile
+  after_profile c g p = parsed inputs.side most_json_bytes (read_side inputs.side) (files inputs.side) >>= after_side c g p
 
   abbrev after_grid : Config → Grid → Result Design Refusal
-  after_grid c grid = parsed again.profile most_json_bytes (read_profile again.profile) (later again.profile) >>= after_profile c grid
+  after_grid c g = parsed inputs.profile most_json_bytes (read_profile inputs.profile) (files inputs.profile) >>= after_profile c g
 
   abbrev after_config : Config → Result Design Refusal
-  after_config c = parsed (grid_at c) most_json_bytes (read_grid (grid_at c)) (later (grid_at c)) >>= after_grid c
+  after_config c = parsed (grid_at c) most_json_bytes (read_grid (grid_at c)) (files (grid_at c)) >>= after_grid c
 
   abbrev its : Design
-  its = record { config = config; device = design.device; side = its_side }
+  its = record { config = config; device = record { grid = grid; types = types; profile = profile }; side = side }
 
-  config_there : parsed again.config most_config_bytes (read_config again.config) (later again.config) ≡ Ok config
-  config_there = short_read again.config most_config_bytes (read_config again.config) (later again.config) text config run.text_there run.short_text (ap (or_refused (config_refusal again.config)) text_read)
+  pub design_of_parts : design_of files inputs ≡ Ok its
+  unfolding design_of
+  design_of_parts =
+      then_ok (parsed inputs.config most_config_bytes (read_config inputs.config) (files inputs.config)) after_config config its config_there
+      (then_ok (parsed (grid_at config) most_json_bytes (read_grid (grid_at config)) (files (grid_at config))) (after_grid config) grid its grid_there
+      (then_ok (parsed inputs.profile most_json_bytes (read_profile inputs.profile) (files inputs.profile)) (after_profile config grid) profile its profile_there
+      (then_ok (parsed inputs.side most_json_bytes (read_side inputs.side) (files inputs.side)) (after_side config grid profile) side its side_there
+      (then_ok (databases_in files inputs.family (types_of grid)) (made config grid profile side) types its types_there refl))))
 
-  side_there : parsed again.side most_json_bytes (read_side again.side) (later again.side) ≡ Ok its_side
-  side_there = short_read again.side most_json_bytes (read_side again.side) (later again.side) side its_side run.side_there run.short_side (ap (or_refused (side_refusal again.side)) side_read)
+-- what is printed and short is there as it is read
+pub config_short : (files : Files) (name text : List ℕ) (config : Config) → files name ≡ Some text → length text ≤ most_config_bytes → configuration_of text ≡ Ok config
+    → parsed name most_config_bytes (read_config name) (files name) ≡ Ok config
+config_short files name text config there short e = short_read name most_config_bytes (read_config name) (files name) text config there short (ap (or_refused (config_refusal name)) e)
 
-  grid_there : parsed (grid_at config) most_json_bytes (read_grid (grid_at config)) (later (grid_at config)) ≡ Ok design.device.grid
-  grid_there =
+pub side_short : (files : Files) (name text : List ℕ) (side : Side) → files name ≡ Some text → length text ≤ most_json_bytes → side_of text ≡ Ok side
+    → parsed name most_json_bytes (read_side name) (files name) ≡ Ok side
+side_short files name text side there short e = short_read name most_json_bytes (read_side name) (files name) text side there short (ap (or_refused (side_refusal name)) e)
+
+module _ (files later : Files) (inputs again : Inputs) (design : Design) (text side : List ℕ) (read : FilesRead files inputs design) (run : IsLaterRun files later inputs again design.config.device text side)
+    (config : Config) (its_side : Side) (text_read : configuration_of text ≡ Ok config) (side_read : side_of side ≡ Ok its_side) (same_device : config.device ≡ design.config.device) where
+  grid_stays : (let name = grid_name again.family config.device in parsed name most_json_bytes (read_grid name) (later name)) ≡ Ok design.device.grid
+  grid_stays =
       let name = grid_name inputs.family design.config.device in
       ap (λ n. parsed n most_json_bytes (read_grid n) (later n)) (ap₂ grid_name run.family same_device)
       ∙ (ap (parsed name most_json_bytes (read_grid name)) run.grid_stands ∙ read.grid)
 
-  profile_there : parsed again.profile most_json_bytes (read_profile again.profile) (later again.profile) ≡ Ok design.device.profile
-  profile_there =
+  profile_stays : parsed again.profile most_json_bytes (read_profile again.profile) (later again.profile) ≡ Ok design.device.profile
+  profile_stays =
       ap (λ n. parsed n most_json_bytes (read_profile n) (later n)) run.profile
       ∙ (ap (parsed inputs.profile most_json_bytes (read_profile inputs.profile)) run.profile_stands ∙ read.profile)
 
-  types_there : databases_in later again.family (types_of design.device.grid) ≡ Ok design.device.types
-  types_there =
+  types_stay : databases_in later again.family (types_of design.device.grid) ≡ Ok design.device.types
+  types_stay =
       ap (λ f. databases_in later f (types_of design.device.grid)) run.family ∙ (same_databases files later inputs.family run.databases_stand (types_of design.device.grid) ∙ read.types)
 
-  design_there : design_of later again ≡ Ok its
-  unfolding design_of
+  design_there : design_of later again ≡ Ok (record { config = config; device = design.device; side = its_side })
   design_there =
-      then_ok (parsed again.config most_config_bytes (read_config again.config) (later again.config)) after_config config its config_there
-      (then_ok (parsed (grid_at config) most_json_bytes (read_grid (grid_at config)) (later (grid_at config))) (after_grid config) design.device.grid its grid_there
-      (then_ok (parsed again.profile most_json_bytes (read_profile again.profile) (later again.profile)) (after_profile config design.device.grid) design.device.profile its profile_there
-      (then_ok (parsed again.side most_json_bytes (read_side again.side) (later again.side)) (after_side config design.device.grid design.device.profile) its_side its side_there
-      (then_ok (databases_in later again.family (types_of design.device.grid)) (made config design.device.grid design.device.profile its_side) design.device.types its types_there refl))))
+      design_of_parts later again config design.device.grid design.device.profile its_side design.device.types
+      (config_short later again.config text config run.text_there run.short_text text_read) grid_stays profile_stays
+      (side_short later again.side side its_side run.side_there run.short_side side_read) types_stay
 
 pub later_accepts : (files later : Files) (inputs again : Inputs) (h : Hardening) (design : Design) (g : Graph) (cells : Cells) → IsAccepted files inputs design g cells
     → (log : List Event) (y : Layout) (n : ℕ) → IsAnswer (job_of design g cells h) (Ended log (Routed y n))

@@ -1,5 +1,5 @@
 -- Lists that are empty, and how many elements a part of a list in order has.
-use Rattle.std.proofs.Common.{◌≡◌, ℕ, suc, ◌+◌, ◌≤◌, inl, inr, List, [], ◌∷◌, ◌++◌, flat_map, filter, length, Bool, true, false, refl, sym, ap, subst, ◌∙◌, arith}
+use Rattle.std.proofs.Common.{◌≡◌, ℕ, ◌≤◌, inl, inr, List, [], ◌∷◌, ◌++◌, flat_map, filter, length, Bool, true, false, refl, sym, ap, subst, ◌∙◌, arith}
 use Rattle.std.specs.Prelude.{if◌then◌else◌}
 use Rattle.std.specs.declared.cmp.Ordering.TheVariants.{Less}
 use Rattle.std.specs.Cmp.{tied_itself}
@@ -45,16 +45,16 @@ no_more [] (n ∷ names) a b among = absurd (among n (inl refl))
 no_more (o ∷ others) [] a b among = omega arith
 no_more (o ∷ others) (n ∷ names) a b among = elim (among n (inl refl)) [
   | inl e ↦ (let h = no_more others names a.1 b.1 (λ z i. elim (among z (inr i)) [
-      | inl f ↦ absurd (not_before_itself z (subst (λ w. name_cmp w z ≡ Less) (sym e ∙ f) (b.0 z i)))
-      | inr j ↦ j
-    ]) in omega (arith, h))
+    | inl f ↦ absurd (not_before_itself z (subst (λ w. name_cmp w z ≡ Less) (sym e ∙ f) (b.0 z i)))
+    | inr j ↦ j
+  ]) in omega (arith, h))
   | inr k ↦ (let h = no_more others (n ∷ names) a.1 b (λ z i. elim (among z i) [
-      | inl f ↦ absurd (elim i [
-        | inl s ↦ not_before_itself o (subst (λ w. name_cmp o w ≡ Less) (s ∙ sym f) (a.0 n k))
-        | inr j ↦ not_before_itself o (nat_list_cmp_total.trans o n o (a.0 n k) (subst (λ w. name_cmp n w ≡ Less) (sym f) (b.0 z j)))
-      ])
-      | inr j ↦ j
-    ]) in omega (arith, h))
+    | inl f ↦ absurd (elim i [
+      | inl s ↦ not_before_itself o (subst (λ w. name_cmp o w ≡ Less) (s ∙ sym f) (a.0 n k))
+      | inr j ↦ not_before_itself o (nat_list_cmp_total.trans o n o (a.0 n k) (subst (λ w. name_cmp n w ≡ Less) (sym f) (b.0 z j)))
+    ])
+    | inr j ↦ j
+  ]) in omega (arith, h))
 ]
 
 -- a part of a list has no more elements

@@ -1,7 +1,7 @@
 -- A text that may be written stays one where the settings of a slice are moved to a site of equal shape.
-use Rattle.std.proofs.Common.{◌≡◌, ◌<◌, ℕ, Bool, true, false, not, inl, inr, List, [], ◌∷◌, ◌++◌, map, filter, filter_map, length, Option, Some, None, option_map, refl, sym, ap, subst, ◌∙◌}
+use Rattle.std.proofs.Common.{◌≡◌, ◌<◌, ℕ, Bool, true, false, not, inl, inr, List, [], ◌∷◌, map, length, Option, Some, None, option_map, refl, sym, ap, subst, ◌∙◌}
 use Rattle.std.specs.Prelude.{slice_get, unwrap_or, find, ◌==◌, if◌then◌else◌}
-use Rattle.std.specs.Option.{option_and_then, option_map_or, is_some}
+use Rattle.std.specs.Option.{option_map_or, is_some}
 use Rattle.std.specs.Str.{bytes_eq}
 use Rattle.words.specs.Members.{In}
 use Rattle.records.specs.Config.{WordLine, EnumLine, TileText, Config}
@@ -23,7 +23,6 @@ use Rattle.cells_laws.proofs.Options.{mapped_from}
 use Rattle.answers.specs.Refusals.{UnknownSetting, UnknownValue, WordLength}
 use Rattle.design_checks.specs.LineChecks.{LineFault, fault_at, word_faults, enum_faults}
 use Rattle.attempts.specs.Moves.{renamed, moved_words, moved_enums, without_slice, with_settings, texts_with, at_tile, texts_of, words_of, enums_of, moved_config}
-use Rattle.repair.specs.Lines.{with_texts}
 use Rattle.written_laws.specs.Writable.{TilePlace, SectionStands, IsWritable}
 use Rattle.written_laws.proofs.Sections.{tiles_of, of_settings, settings_rising, settings_good}
 

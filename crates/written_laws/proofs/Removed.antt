@@ -1,5 +1,5 @@
 -- A text that may be written stays one without some of its arc lines.
-use Rattle.std.proofs.Common.{◌≡◌, ℕ, inl, inr, List, [], ◌∷◌, map, refl, sym, ap, ap₂, subst, ◌∙◌}
+use Rattle.std.proofs.Common.{◌≡◌, ℕ, inl, inr, List, ◌∷◌, map, refl, sym, ap, ap₂, subst, ◌∙◌}
 use Rattle.words.specs.Members.{In}
 use Rattle.records.specs.Config.{ArcLine, TileText, Config}
 use Rattle.links.proofs.Members.{in_map, of_map}
@@ -7,7 +7,7 @@ use Rattle.fabric.specs.InOrder.{IsRising}
 use Rattle.fabric.specs.Wires.{name_cmp}
 use Rattle.fabric.specs.Graph.{Graph}
 use Rattle.config_grammar.specs.ConfigText.{arc_key}
-use Rattle.repair.specs.Lines.{with_texts, WithoutLines, no_lines, keeps, drops, TextWithout, TextsWithout, no_texts, next_text, WithoutArcLines}
+use Rattle.repair.specs.Lines.{WithoutLines, no_lines, keeps, drops, TextWithout, TextsWithout, no_texts, next_text, WithoutArcLines}
 use Rattle.written_laws.specs.Writable.{SectionStands, IsWritable}
 use Rattle.written_laws.proofs.Sections.{tiles_of}
 

@@ -1,5 +1,5 @@
 -- What a router makes of a text that may be written is one again: the start, each attempt and each move.
-use Rattle.std.proofs.Common.{◌≡◌, ℕ, inl, inr, List, [], ◌∷◌, ◌++◌, Option, Some, refl, sym, ap, subst, ◌∙◌}
+use Rattle.std.proofs.Common.{◌≡◌, ℕ, inl, inr, List, [], ◌∷◌, Option, Some, sym, ap, subst, ◌∙◌}
 use Rattle.std.specs.Prelude.{slice_get}
 use Rattle.std.specs.Option.{option_and_then}
 use Rattle.words.specs.Members.{In}
@@ -11,7 +11,7 @@ use Rattle.fabric.specs.Graph.{GraphArc, Graph}
 use Rattle.fabric.specs.GraphOf.{IsGraph}
 use Rattle.fabric.specs.Image.{tile_named}
 use Rattle.circuit.specs.Parts.{Source}
-use Rattle.circuit.specs.Circuits.{Circuit, Connection}
+use Rattle.circuit.specs.Circuits.{Connection}
 use Rattle.cells.specs.Sites.{Site, slice_kind, site_in, site_at, slice_site, settings_at}
 use Rattle.cells_laws.proofs.Options.{mapped_from, then_from}
 use Rattle.cells_laws.proofs.Shapes.{equal_shape_exact}
@@ -20,8 +20,7 @@ use Rattle.repair.specs.Lines.{with_arc_lines}
 use Rattle.repair.specs.Layouts.{Layout, with_path, turn_over}
 use Rattle.repair.specs.Routes.{IsTheRoute}
 use Rattle.attempts.specs.Jobs.{Job, State, read_of}
-use Rattle.attempts.specs.Starts.{IsStart}
-use Rattle.attempts.specs.Turns.{Cut, Outcome, Complete, Blocked, behind, ComesOut}
+use Rattle.attempts.specs.Turns.{Outcome, Complete, Blocked, behind, ComesOut}
 use Rattle.attempts.specs.Candidates.{Step, IsCandidate}
 use Rattle.attempts.specs.Moves.{Move}
 use Rattle.attempts.specs.Wires.{pin_wire}

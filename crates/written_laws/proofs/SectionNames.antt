@@ -1,7 +1,7 @@
 -- Over the graph of a device that is read, a section that names what is there has names alone; so a text that may be
 -- written is of the form that is read.
-use Rattle.std.proofs.Common.{◌≡◌, ◌≤◌, ℕ, Bool, true, List, [], ◌∷◌, map, filter, length, Option, Some, None, refl, sym, ap, subst, ◌∙◌, arith}
-use Rattle.std.specs.Prelude.{slice_get, find, ◌==◌, ◌&&◌, if◌then◌else◌}
+use Rattle.std.proofs.Common.{◌≡◌, ◌≤◌, ℕ, true, List, [], ◌∷◌, map, filter, length, Option, Some, None, refl, sym, subst, ◌∙◌, arith}
+use Rattle.std.specs.Prelude.{find, ◌==◌, ◌&&◌}
 use Rattle.std.specs.Option.{option_map_or}
 use Rattle.std.specs.Str.{bytes_eq}
 use Rattle.std.proofs.lemmas.Bool.{and_parts}
@@ -10,13 +10,13 @@ use Rattle.words.specs.Members.{In}
 use Rattle.texts.specs.Names.{is_name}
 use Rattle.records.specs.Grid.{Tile}
 use Rattle.records.specs.Database.{WordSetting, EnumSetting, EnumOption}
-use Rattle.records.specs.Config.{Head, ArcLine, WordLine, EnumLine, UnknownLine, TileText, Config}
+use Rattle.records.specs.Config.{ArcLine, WordLine, EnumLine, TileText, Config}
 use Rattle.links.proofs.Members.{in_map, of_map}
-use Rattle.fabric.specs.Settings.{Settings, word_named, enum_named, option_of}
+use Rattle.fabric.specs.Settings.{word_named, enum_named, option_of}
 use Rattle.fabric.specs.Device.{TypeDb, Device, database_of}
 use Rattle.fabric.specs.Graph.{GraphMux, GraphArc, Graph}
 use Rattle.fabric.specs.GraphOf.{settings_in, IsGraph}
-use Rattle.fabric.specs.Image.{tile_named, mux_named, arc_named}
+use Rattle.fabric.specs.Image.{mux_named, arc_named}
 use Rattle.fabric_laws.proofs.Members.{find_from}
 use Rattle.fabric_laws.proofs.Numbered.{get_in, at_position}
 use Rattle.fabric_laws.proofs.Standing.{mux_stands, arc_stands}

@@ -1,33 +1,32 @@
 -- The side file of a layout that keeps a design is of the form that is read.
-use Rattle.std.proofs.Common.{◌≡◌, ◌≤◌, ℕ, Bool, true, false, not, inl, inr, List, [], ◌∷◌, ◌++◌, map, flat_map, find, length, Option, Some, None, option_map, refl, sym, ap, subst, ◌∙◌, append_assoc}
-use Rattle.std.specs.Prelude.{nat_lt, ◌==◌, ◌&&◌, ◌||◌, if◌then◌else◌}
+use Rattle.std.proofs.Common.{◌≡◌, ◌≤◌, ℕ, Bool, true, false, not, inl, List, [], ◌∷◌, ◌++◌, map, flat_map, find, length, Option, Some, None, option_map, refl, sym, ap, subst, ◌∙◌, append_assoc}
+use Rattle.std.specs.Prelude.{nat_lt, ◌&&◌, ◌||◌, if◌then◌else◌}
 use Rattle.std.specs.List.{list_any}
 use Rattle.std.specs.Str.{bytes_eq}
-use Rattle.std.proofs.lemmas.Bool.{and_parts, false≢true}
+use Rattle.std.proofs.lemmas.Bool.{and_parts}
 use Rattle.std.proofs.lemmas.List.{length-map}
 use Rattle.std.proofs.lemmas.Slice.Eq.{bytes_eq-Decides}
 use Rattle.words.specs.Members.{In}
 use Rattle.words.specs.Firsts.{or_else, first_fault_after, first_fault}
 use Rattle.texts.specs.Names.{is_name}
-use Rattle.records.specs.Grid.{Tile}
 use Rattle.records.specs.Limits.{Slices, Pads}
 use Rattle.records.specs.Profile.{SliceKind}
 use Rattle.records.specs.Side.{Domain, Placed, Triple, Voter, Side}
 use Rattle.json_forms.specs.Faults.{TooLarge}
-use Rattle.side_form.specs.Side.{SideFault, OfForm, DuplicateName, UnknownName, Unpaired, WrongDomain, most_slices, most_pads, size_fault, same_site, cell_fault, names_of_triples, entry_fault, voter_fault, pad_triples, second_use, cell_names, first_outside, unknown_name, unpaired, same_domain, entries_of_triple, is_in_domain, first_elsewhere, wrong_domain, side_fault}
+use Rattle.side_form.specs.Side.{OfForm, DuplicateName, UnknownName, Unpaired, WrongDomain, most_slices, most_pads, size_fault, same_site, cell_fault, names_of_triples, entry_fault, voter_fault, pad_triples, second_use, cell_names, first_outside, unknown_name, unpaired, same_domain, entries_of_triple, is_in_domain, first_elsewhere, wrong_domain, side_fault}
 use Rattle.links.proofs.Members.{in_map, of_map}
 use Rattle.fabric.specs.Graph.{Graph}
 use Rattle.fabric_laws.proofs.Members.{any_from, is_false}
 use Rattle.fabric_laws.proofs.Numbered.{get_in}
 use Rattle.circuit.specs.Triples.{Member}
-use Rattle.circuit.specs.Designs.{placed_members, SameSide}
+use Rattle.circuit.specs.Designs.{placed_members}
 use Rattle.cells_laws.proofs.Faults.{cells_accepted}
 use Rattle.cells_laws.proofs.Options.{or_none, none_or}
 use Rattle.cells_laws.proofs.Sites.{site_stands}
 use Rattle.repair.specs.Layouts.{Layout, configured}
 use Rattle.attempts.specs.Jobs.{Job}
 use Rattle.formed_laws.specs.Twice.{HasNoneTwice}
-use Rattle.formed_laws.specs.SideRead.{site_of, placed_cells, IsApart}
+use Rattle.formed_laws.specs.SideRead.{site_of}
 use Rattle.formed_laws.proofs.Twice.{keys_apart}
 use Rattle.headline_laws.specs.Sound.{IsSoundJob}
 use Rattle.headline_laws.specs.Kept.{KeepsDesign}
@@ -46,9 +45,9 @@ no_cell_fault : (before : List Placed) (x : Placed) → ((y : Placed) → In bef
 no_cell_fault before x names sites =
     let used : Placed → Bool = (λ other. bytes_eq other.name x.name || same_site other x) in
     let unused : list_any used before ≡ false = is_false (list_any used before) (λ e. (let r = any_from used before e in
-      one_of_two (bytes_eq r.0.name x.name) (same_site r.0 x) r.2 (λ n. names r.0 r.1 ((bytes_eq-Decides r.0.name x.name).0 n))
-      (λ s. (let parts = and_parts (bytes_eq r.0.tile x.tile) (bytes_eq r.0.kind x.kind) s in
-        sites r.0 r.1 (λ i. ((bytes_eq-Decides r.0.tile x.tile).0 parts.0 i, (bytes_eq-Decides r.0.kind x.kind).0 parts.1 i)))))) in
+    one_of_two (bytes_eq r.0.name x.name) (same_site r.0 x) r.2 (λ n. names r.0 r.1 ((bytes_eq-Decides r.0.name x.name).0 n))
+    (λ s. (let parts = and_parts (bytes_eq r.0.tile x.tile) (bytes_eq r.0.kind x.kind) s in
+    sites r.0 r.1 (λ i. ((bytes_eq-Decides r.0.tile x.tile).0 parts.0 i, (bytes_eq-Decides r.0.kind x.kind).0 parts.1 i)))))) in
     ap (λ b. if b then Some (DuplicateName x.name) else None) unused
 
 no_cell_faults : (before xs : List Placed) → HasNoneTwice (map (λ (p : Placed). p.name) (before ++ xs)) → HasNoneTwice (map site_of (before ++ xs)) → first_fault_after cell_fault before xs ≡ None

@@ -1,10 +1,10 @@
 -- What is written of an accepted design is read as one that hardens it.
-use Rattle.std.proofs.Common.{◌≡◌, ℕ, List, [], ◌∷◌, Option, Some, None, refl, sym, ap, subst, ◌∙◌}
+use Rattle.std.proofs.Common.{◌≡◌, ℕ, List, Option, Some, None, refl, sym, ap, subst, ◌∙◌}
 use Rattle.std.specs.Prelude.{Ok}
 use Rattle.records.specs.Config.{Config}
-use Rattle.patterns.specs.Bits.{Bits}
 use Rattle.links.specs.Links.{IsClean}
 use Rattle.fabric.specs.Agree.{ArcsAgree}
+use Rattle.fabric.specs.Device.{Device}
 use Rattle.fabric.specs.Graph.{Graph}
 use Rattle.fabric.specs.Image.{image_of}
 use Rattle.circuit.specs.Cells.{Cells}
@@ -14,7 +14,7 @@ use Rattle.upset.specs.Configured.{Configured, circuit_of}
 use Rattle.repair.specs.Turns.{routing}
 use Rattle.repair.specs.Layouts.{Layout, configured}
 use Rattle.attempts.specs.Jobs.{Job}
-use Rattle.attempts.specs.Attempts.{Event, Routed, Standing, IsAnswer, Ended}
+use Rattle.attempts.specs.Attempts.{Event, Routed, IsAnswer, Ended}
 use Rattle.config_grammar.specs.ConfigPrint.{config_text}
 use Rattle.side_form.specs.SidePrint.{side_text}
 use Rattle.answers.specs.Answers.{Done}
@@ -27,10 +27,9 @@ use Rattle.design_checks.specs.GraphChecks.{graph_size_refusal, Overlap}
 use Rattle.design_checks.specs.LineChecks.{line_refusal}
 use Rattle.design_checks.specs.RoutingChecks.{ArcsDiffer, AreContested}
 use Rattle.design_checks.specs.CellChecks.{cell_refusal}
-use Rattle.design_checks.specs.DesignChecks.{GraphRefused, TextRefused, CellsRefused, DesignRefused, configured_as, IsAccepted}
-use Rattle.design_answers.specs.Outcomes.{job_of, Outcome, file, IsOutcome, refuses, stands, hardens, finds_no_route}
+use Rattle.design_checks.specs.DesignChecks.{GraphRefused, TextRefused, CellsRefused, configured_as, IsAccepted}
+use Rattle.design_answers.specs.Outcomes.{job_of, Outcome, IsOutcome, refuses, stands, hardens, finds_no_route}
 use Rattle.design_answers.specs.Headline.{Hardens, AreHardened}
-use Rattle.formed_laws.specs.Designs.{IsReadDesign}
 use Rattle.check_laws.specs.Accepted.{FeedsAreModelled, IsSound}
 use Rattle.check_laws.proofs.Passing.{first_passes, second_passes}
 use Rattle.check_laws.proofs.Converse.{sound_passes}
@@ -48,7 +47,7 @@ use Rattle.text_laws.proofs.SidePrinted.{side_formed, side_read_back}
 use Rattle.text_laws.proofs.SameWrites.{same_image, same_agreeing}
 use Rattle.text_laws.proofs.SameFaults.{not_refused}
 use Rattle.written_laws.specs.Writable.{IsWritable}
-use Rattle.written_laws.specs.Written.{MayBeHardened, WritesHardened}
+use Rattle.written_laws.specs.Written.{MayBeHardened, IsReadAgain, WritesHardened}
 use Rattle.written_laws.proofs.Faults.{read_is_writable, none_refused}
 use Rattle.written_laws.proofs.SectionNames.{writable_is_formed}
 use Rattle.written_laws.proofs.Runs.{answer_writable}
@@ -58,6 +57,50 @@ use Rattle.written_laws.proofs.Sides.{kept_side_is_formed}
 nothing_refused : (o : Option Refusal) → Passes (Computed o) → o ≡ None
 nothing_refused None pass = refl
 nothing_refused (Some r) pass = absurd (pass r refl)
+
+-- ---- a sound design that is printed and read
+
+module _ (design : Design) (g : Graph) (cells : Cells) (sound : IsSound design.device design.config (configured_as design g cells)) (text : IsFormedText design.config) (side : IsFormedSide design.side)
+    (small : graph_size_refusal g ≡ None) (lines : line_refusal g design.config ≡ None) where
+  module _ (d : Config) (same : SameButLines design.config d) where
+    abbrev again : Design
+    again = record { config = d; device = design.device; side = design.side }
+
+    same_configured : configured_as design g cells ≡ configured_as again g cells
+    same_configured i = record { graph = g; image = same_image g design.config d same i; cells = cells; side = design.side }
+
+    again_sound : IsSound design.device d (configured_as again g cells)
+    again_sound = record {
+      read = record {
+        profile = sound.read.profile;
+        side = (side_text design.side, side_read_back design.side side);
+        graph = sound.read.graph;
+        outputs = sound.read.outputs;
+        cells = subst (λ (k : Configured). cells_of k.graph design.device.profile k.image k.side ≡ Ok k.cells) same_configured sound.read.cells;
+      };
+      clean = subst (λ k. IsClean (routing k)) same_configured sound.clean;
+      agree = (same_agreeing g (image_of g d) design.config d same).0 (subst (λ (k : Configured). ArcsAgree k.graph k.image design.config) same_configured sound.agree);
+      modelled = subst (λ k. FeedsAreModelled (circuit_of k)) same_configured sound.modelled;
+      triplicated = subst (λ k. IsTriplicated (circuit_of k)) same_configured sound.triplicated;
+    }
+
+  -- it is read as one that no check refuses
+  pub sound_is_read_again : IsReadAgain design g (config_text design.config) (side_text design.side)
+  sound_is_read_again =
+      let r = printed_read design.config text in
+      record {
+        again = again r.0 r.1.1;
+        text_read = r.1.0;
+        side_read = side_read_back design.side side;
+        device = refl;
+        side_stays = refl;
+        device_named = r.1.1.device;
+        image = sym (same_image g design.config r.0 r.1.1);
+        passes = sound_passes (again r.0 r.1.1) g cells (again_sound r.0 r.1.1) small
+            (not_refused g design.config r.0 r.1.1 (printed_lines design.config r.0 text r.1.0) lines);
+      }
+
+-- ---- what is written
 
 -- an accepted design may be hardened
 module _ (files : Files) (inputs : Inputs) (h : Hardening) (design : Design) (g : Graph) (cells : Cells) (accepted : IsAccepted files inputs design g cells) where
@@ -105,48 +148,50 @@ module _ (h : Hardening) (design : Design) (g : Graph) (cells : Cells) (may : Ma
     pub written_side_formed : IsFormedSide y.side
     written_side_formed = kept_side_is_formed job sound may.device y kept (side_formed design.side sound.read.side)
 
-    -- the design that the bytes are read as
-    module _ (d : Config) (same : SameButLines y.config d) where
-      abbrev again : Design
-      again = record { config = d; device = design.device; side = y.side }
+    -- the design that is written
+    abbrev written : Design
+    written = record { config = y.config; device = design.device; side = y.side }
 
-      abbrev k : Configured
-      k = configured_as again g y.cells
+    same_layout : configured y ≡ configured_as written g y.cells
+    same_layout i = record { graph = kept.graph i; image = image_of (kept.graph i) y.config; cells = y.cells; side = y.side }
 
-      same_configured : configured y ≡ k
-      same_configured i = record { graph = kept.graph i; image = (ap (λ x. image_of x y.config) kept.graph ∙ same_image g y.config d same) i; cells = y.cells; side = y.side }
+    written_sound : IsSound design.device y.config (configured_as written g y.cells)
+    written_sound = record {
+      read = record {
+        profile = sound.read.profile;
+        side = (side_text y.side, side_read_back y.side written_side_formed);
+        graph = sound.read.graph;
+        outputs = sound.read.outputs;
+        cells = subst (λ (k : Configured). cells_of k.graph design.device.profile k.image k.side ≡ Ok k.cells) same_layout kept.cells;
+      };
+      clean = subst (λ k. IsClean (routing k)) same_layout kept.ready.clean;
+      agree = subst (λ (k : Configured). ArcsAgree k.graph k.image y.config) same_layout kept.agree;
+      modelled = subst (λ k. FeedsAreModelled (circuit_of k)) same_layout kept.modelled;
+      triplicated = subst (λ k. IsTriplicated (circuit_of k)) same_layout (written_triplicated job sound log y n answer);
+    }
 
-      cells_read : cells_of g design.device.profile (image_of g d) y.side ≡ Ok y.cells
-      cells_read = subst (λ (z : Configured). cells_of z.graph design.device.profile z.image z.side ≡ Ok z.cells) same_configured kept.cells
+    written_is_read : IsReadAgain written g (config_text y.config) (side_text y.side)
+    written_is_read = sound_is_read_again written g y.cells written_sound written_text_formed written_side_formed may.small lines_pass
 
-      is_sound : IsSound design.device d k
-      is_sound = record {
-        read = record { profile = sound.read.profile; side = (side_text y.side, side_read_back y.side written_side_formed); graph = sound.read.graph; outputs = sound.read.outputs; cells = cells_read };
-        clean = subst (λ z. IsClean (routing z)) same_configured kept.ready.clean;
-        agree = (same_agreeing g (image_of g d) y.config d same).0 (subst (λ (z : Configured). ArcsAgree z.graph z.image y.config) same_configured kept.agree);
-        modelled = subst (λ z. FeedsAreModelled (circuit_of z)) same_configured kept.modelled;
-        triplicated = subst (λ z. IsTriplicated (circuit_of z)) same_configured (written_triplicated job sound log y n answer);
-      }
-
-      again_hardens : Hardens (configured_as design g cells) k
-      again_hardens = subst (Hardens (configured_as design g cells)) same_configured (hardened_design_keeps_outputs job sound log y n answer)
+    same_again : (r : IsReadAgain written g (config_text y.config) (side_text y.side)) → configured y ≡ configured_as r.again g y.cells
+    same_again r i = record { graph = kept.graph i; image = (ap (λ x. image_of x y.config) kept.graph ∙ sym r.image) i; cells = y.cells; side = sym r.side_stays i }
 
     -- the bytes harden the design, and name its device
     pub named_hardened : (a : AreHardened design g cells (config_text y.config) (side_text y.side)) × (a.again.config.device ≡ design.config.device)
     named_hardened =
-        let r = printed_read y.config written_text_formed in (
+        let r = written_is_read in (
           record {
-            again = again r.0 r.1.1;
+            again = r.again;
             its_cells = y.cells;
-            text_read = r.1.0;
-            side_read = side_read_back y.side written_side_formed;
-            device = refl;
-            cells_there = cells_read r.0 r.1.1;
-            passes = sound_passes (again r.0 r.1.1) g y.cells (is_sound r.0 r.1.1) may.small
-                (not_refused g y.config r.0 r.1.1 (printed_lines y.config r.0 written_text_formed r.1.0) lines_pass);
-            hardens = again_hardens r.0 r.1.1;
+            text_read = r.text_read;
+            side_read = r.side_read;
+            device = r.device;
+            cells_there = subst (λ (d : Device). cells_of g d.profile (image_of g r.again.config) r.again.side ≡ Ok y.cells) (sym r.device)
+                (subst (λ (k : Configured). cells_of k.graph design.device.profile k.image k.side ≡ Ok k.cells) (same_again r) kept.cells);
+            passes = r.passes;
+            hardens = subst (Hardens (configured_as design g cells)) (same_again r) (hardened_design_keeps_outputs job sound log y n answer);
           },
-          r.1.1.device ∙ text_writable.device,
+          r.device_named ∙ text_writable.device,
         )
 
     pub are_hardened : AreHardened design g cells (config_text y.config) (side_text y.side)

@@ -1,14 +1,18 @@
 -- What is asked of a design whose hardened text is read again, and what a run of `harden` writes. (Our own.)
-use Rattle.std.specs.Prelude.{◌≡◌, ◌≤◌, ℕ, List, [], ◌∷◌, length, Some, None}
+use Rattle.std.specs.Prelude.{◌≡◌, ◌≤◌, ℕ, List, [], ◌∷◌, length, Some, None, Ok}
 use Rattle.fabric.specs.Graph.{Graph}
+use Rattle.fabric.specs.Image.{image_of}
 use Rattle.circuit.specs.Cells.{Cells}
+use Rattle.config_grammar.specs.ConfigText.{configuration_of}
+use Rattle.side_form.specs.Side.{side_of}
 use Rattle.commands.specs.Commands.{Inputs, Hardening}
 use Rattle.design_files.specs.Names.{most_config_bytes, most_json_bytes, grid_name, database_name}
 use Rattle.design_files.specs.Parsed.{Files}
 use Rattle.design_files.specs.Designs.{Design}
 use Rattle.design_checks.specs.GraphChecks.{graph_size_refusal}
 use Rattle.design_checks.specs.LineChecks.{line_refusal}
-use Rattle.design_checks.specs.DesignChecks.{configured_as, IsAccepted}
+use Rattle.design_checks.specs.Checks.{Passes}
+use Rattle.design_checks.specs.DesignChecks.{configured_as, DesignRefused, IsAccepted}
 use Rattle.design_answers.specs.Outcomes.{job_of, Outcome, file}
 use Rattle.design_answers.specs.Headline.{Hardens, AreHardened}
 use Rattle.headline_laws.specs.Sound.{IsSoundJob}
@@ -23,6 +27,18 @@ pub record MayBeHardened (design : Design) (g : Graph) (cells : Cells) (h : Hard
   pub text : IsFormedText design.config
   pub small : graph_size_refusal g ≡ None
   pub lines : line_refusal g design.config ≡ None
+
+-- The bytes of a text and of a side file are read as a design of the same device, with the same side file, whose text names
+-- the same device and leaves the same image. No check refuses it.
+pub record IsReadAgain (design : Design) (g : Graph) (text side : List ℕ) : Type 0 where
+  pub again : Design
+  pub text_read : configuration_of text ≡ Ok again.config
+  pub side_read : side_of side ≡ Ok again.side
+  pub device : again.device ≡ design.device
+  pub side_stays : again.side ≡ design.side
+  pub device_named : again.config.device ≡ design.config.device
+  pub image : image_of g again.config ≡ image_of g design.config
+  pub passes : Passes (DesignRefused again g)
 
 -- A later run over what was written. Its family and its profile are those of the first run, and the files of the device stand
 -- as they stood. Its text and its side file are those that were written, and neither is too long to be read.

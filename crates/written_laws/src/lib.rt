@@ -5,12 +5,14 @@
 
 ghost use Rattle.answers.specs.Answers.{Done};
 ghost use Rattle.attempts.specs.Attempts.{Ended, Event, IsAnswer, Routed};
+ghost use Rattle.check_laws.specs.Accepted.{IsSound};
 ghost use Rattle.circuit.specs.Cells.{Cells};
 ghost use Rattle.commands.specs.Commands.{Harden, Hardening, Inputs};
 ghost use Rattle.config_grammar.specs.ConfigPrint.{config_text};
 ghost use Rattle.design_answers.specs.Headline.{AreHardened};
 ghost use Rattle.design_answers.specs.Outcomes.{IsOutcome, job_of, Outcome};
-ghost use Rattle.design_checks.specs.DesignChecks.{IsAccepted};
+ghost use Rattle.design_checks.specs.DesignChecks.{configured_as, IsAccepted};
+ghost use Rattle.design_checks.specs.GraphChecks.{graph_size_refusal};
 ghost use Rattle.design_checks.specs.LineChecks.{line_refusal};
 ghost use Rattle.design_files.specs.Designs.{Design};
 ghost use Rattle.design_files.specs.Parsed.{Files};
@@ -20,7 +22,15 @@ ghost use Rattle.side_form.specs.SidePrint.{side_text};
 ghost use Rattle.std.specs.Prelude.{List, None, ℕ, ◌≡◌};
 ghost use Rattle.text_laws.specs.Formed.{IsFormedSide, IsFormedText};
 ghost use Rattle.written_laws.specs.Writable.{IsWritable};
-ghost use Rattle.written_laws.specs.Written.{AcceptsHardened, IsLaterRun, MayBeHardened, WritesHardened};
+ghost use Rattle.written_laws.specs.Written.{AcceptsHardened, IsLaterRun, IsReadAgain, MayBeHardened, WritesHardened};
+
+/// A sound design of the form that is read, each of whose lines names what is there, is read from its printed text and side
+/// file as one that no check refuses, where its graph is within its limits.
+pub fn sound_design_is_read_again()
+    ensures { (design : Design) (g : Graph) (cells : Cells) → IsSound design.device design.config (configured_as design g cells)
+        → IsFormedText design.config → IsFormedSide design.side → graph_size_refusal g ≡ None → line_refusal g design.config ≡ None
+        → IsReadAgain design g (config_text design.config) (side_text design.side) }
+{}
 
 /// An accepted design may be hardened: it is a sound job, its device and its text are read, and its checks pass.
 pub fn accepted_design_may_be_hardened()

@@ -1,0 +1,13 @@
+-- The crossed toggle on MINI-A as a design that is to be hardened. (Our own.)
+use Rattle.std.specs.Prelude.{codes}
+use Rattle.mini.specs.MiniA.{mini_a}
+use Rattle.mini.specs.Toggle.{crossed, toggle_side}
+use Rattle.commands.specs.Commands.{Hardening, RipUnsafe}
+use Rattle.design_files.specs.Designs.{Design}
+
+abbrev pub crossed_design : Design
+crossed_design = record { config = crossed; device = mini_a; side = toggle_side }
+
+-- in one attempt, where the nets that a bad bit disturbs are ripped
+abbrev pub in_one_attempt : Hardening
+in_one_attempt = record { out = codes "out.config"; side_out = codes "out.json"; cut_out = codes "cut.txt"; rounds = 1; rip = RipUnsafe }

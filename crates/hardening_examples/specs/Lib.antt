@@ -1,0 +1,2 @@
+pub mod CrossedDesign
+pub mod CrossedFiles
