@@ -5,6 +5,7 @@ pub mod ToggleFormed
 pub mod Voting
 pub mod Rules
 pub mod CopyRules
+pub mod Ranks
 pub mod ToggleMeets
 pub mod ExchangeMeets
 pub mod Broken

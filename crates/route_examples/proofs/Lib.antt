@@ -7,4 +7,3 @@ pub mod Answered
 pub mod Uncrossed
 pub mod Mended
 pub mod CorridorMeets
-pub mod CorridorRead

@@ -1,5 +1,5 @@
 use Rattle.std.proofs.Common.{refl}
-use Rattle.route_examples.proofs.CorridorRead.{corridor_read}
+use Rattle.cells_examples.proofs.CorridorRead.{corridor_read}
 use Rattle.route_examples.proofs.Answered.{told, corridor_safe}
 use Rattle.route_examples.proofs.corridor_is_safe.Goals as goal
 

@@ -12,24 +12,26 @@ use Rattle.cells.specs.Faults.{CellFault, cell_fault}
 use Rattle.circuit.specs.Cells.{Role, InputPad, OutputPad, ClockPad, PadCell, Cells}
 use Rattle.fabric.specs.Graph.{Graph}
 use Rattle.fabric.specs.Image.{image_of}
+use Rattle.fabric_laws.specs.PlainGraph.{graph_of}
 use Rattle.fabric_laws.proofs.SameBits.{same_is}
-use Rattle.upset_laws.specs.PlainUpset.{same_domain}
+use Rattle.circuit_examples.proofs.Tests.{domain_eq, domain_is}
 use Rattle.mini_b.specs.MiniB.{mini_b}
 use Rattle.mini_b.specs.Corridor.{corridor, corridor_side}
 use Rattle.mini_b.specs.CorridorCells.{corridor_cells}
-use Rattle.plain_routes.proofs.Tests.{tells_domain}
-use Rattle.route_examples.proofs.Conditions.{g}
+
+abbrev g : Graph
+g = graph_of mini_b
 
 -- where there is no fault, cells are told by their slices and their pads
 unless_none : (f : Option CellFault) (x y : Cells) → f ≡ None → x.slices ≡ y.slices → x.pads ≡ y.pads → unless f x ≡ Ok y
 unless_none f x y e s p = ap (λ o. unless o x) e ∙ ap Ok (λ i. record { slices = s i; pads = p i })
 
-read_so : (graph : Graph) (profile : Profile) (image : Bits) (side : Side) (cells : Cells) → cell_fault graph profile image side ≡ None
+pub read_so : (graph : Graph) (profile : Profile) (image : Bits) (side : Side) (cells : Cells) → cell_fault graph profile image side ≡ None
     → slice_cells graph profile image side ≡ cells.slices → pad_cells graph profile side ≡ cells.pads → cells_of graph profile image side ≡ Ok cells
 read_so graph profile image side cells none slices pads = unless_none (cell_fault graph profile image side) _ cells none slices pads
 
 -- pads told apart by a test, which costs less to compute than to compare them
-same_bits : List DeviceBit → List DeviceBit → Bool
+unfoldable pub same_bits : List DeviceBit → List DeviceBit → Bool
 same_bits [] [] = true
 same_bits (b ∷ bs) (c ∷ cs) = same_bit b c && same_bits bs cs
 same_bits _ _ = false
@@ -41,7 +43,7 @@ bits_from [] (c ∷ cs) h = absurd (false≢true h)
 bits_from (b ∷ bs) [] h = absurd (false≢true h)
 bits_from (b ∷ bs) (c ∷ cs) h = let parts = and_parts (same_bit b c) (same_bits bs cs) h in ap₂ (λ z zs. z ∷ zs) (same_is b c parts.0) (bits_from bs cs parts.1)
 
-same_role : Role → Role → Bool
+unfoldable pub same_role : Role → Role → Bool
 same_role InputPad InputPad = true
 same_role OutputPad OutputPad = true
 same_role ClockPad ClockPad = true
@@ -59,29 +61,29 @@ role_from OutputPad ClockPad h = absurd (false≢true h)
 role_from ClockPad InputPad h = absurd (false≢true h)
 role_from ClockPad OutputPad h = absurd (false≢true h)
 
-same_pad : PadCell → PadCell → Bool
-same_pad x y = bytes_eq x.name y.name && (same_domain x.domain y.domain && (same_role x.role y.role && ((x.wire == y.wire) && same_bits x.bits y.bits)))
+unfoldable pub same_pad : PadCell → PadCell → Bool
+same_pad x y = bytes_eq x.name y.name && (domain_eq x.domain y.domain && (same_role x.role y.role && ((x.wire == y.wire) && same_bits x.bits y.bits)))
 
 pad_from : (x y : PadCell) → same_pad x y ≡ true → x ≡ y
 unfolding same_pad
 pad_from x y h =
     let one = and_parts (bytes_eq x.name y.name) _ h in
-    let two = and_parts (same_domain x.domain y.domain) _ one.1 in
+    let two = and_parts (domain_eq x.domain y.domain) _ one.1 in
     let three = and_parts (same_role x.role y.role) _ two.1 in
     let four = and_parts (x.wire == y.wire) (same_bits x.bits y.bits) three.1 in
     let names = (bytes_eq-Decides x.name y.name).0 one.0 in
-    let domains = (tells_domain x.domain y.domain).from two.0 in
+    let domains = domain_is x.domain y.domain two.0 in
     let roles = role_from x.role y.role three.0 in
     let wires = eqb-true x.wire y.wire four.0 in
     let bits = bits_from x.bits y.bits four.1 in
     λ i. record { name = names i; domain = domains i; role = roles i; wire = wires i; bits = bits i }
 
-same_pads : List PadCell → List PadCell → Bool
+unfoldable pub same_pads : List PadCell → List PadCell → Bool
 same_pads [] [] = true
 same_pads (x ∷ xs) (y ∷ ys) = same_pad x y && same_pads xs ys
 same_pads _ _ = false
 
-pads_from : (xs ys : List PadCell) → same_pads xs ys ≡ true → xs ≡ ys
+pub pads_from : (xs ys : List PadCell) → same_pads xs ys ≡ true → xs ≡ ys
 unfolding same_pads
 pads_from [] [] h = refl
 pads_from [] (y ∷ ys) h = absurd (false≢true h)
@@ -92,7 +94,7 @@ pads_tested : same_pads (pad_cells g mini_b.profile corridor_side) (corridor_cel
 unfolding same_pads same_pad same_role same_bits
 pads_tested = refl
 
-pads : pad_cells g mini_b.profile corridor_side ≡ (corridor_cells g).pads
+pub pads : pad_cells g mini_b.profile corridor_side ≡ (corridor_cells g).pads
 pads = pads_from (pad_cells g mini_b.profile corridor_side) (corridor_cells g).pads pads_tested
 
 none_faulty : cell_fault g mini_b.profile (image_of g corridor) corridor_side ≡ None
