@@ -23,6 +23,20 @@ good_config = Some (codes ".device D\n")
 abbrev pub good_grid : Option (List ℕ)
 good_grid = Some (codes "{}")
 
+-- a grid of one tile, a profile without kinds, and a side file without cells
+abbrev pub one_tile : Option (List ℕ)
+one_tile = Some (codes "{\"R0C0:T\":{\"cols\":1,\"rows\":1,\"start_bit\":0,\"start_frame\":0,\"type\":\"T\"}}")
+
+abbrev pub no_kinds : Option (List ℕ)
+no_kinds = Some (codes "{\"chip_prefix\":\"\",\"other_chips\":[],\"wide\":[],\"joins\":[],\"slices\":[],\"pads\":[]}")
+
+abbrev pub no_cells : Option (List ℕ)
+no_cells = Some (codes "{\"clocks\":[],\"inputs\":[],\"outputs\":[],\"pads\":[],\"slices\":[],\"triples\":[],\"voters\":[]}")
+
+-- files beside a database of the tile's type, whose second line is no line of a database
+abbrev pub with_faulty_database : Files → Files
+with_faulty_database files name = if bytes_eq name (codes "f/tiledata/T/bits.db") then Some (codes ".mux W\n.rest\n") else files name
+
 -- the arc, word, enum and unknown lines of one section, each with its number
 abbrev pub section : List ℕ → List ArcLine → List WordLine → List EnumLine → List UnknownLine → TileText
 section tile arcs words enums unknowns = record { tile = tile; line = 2; arcs = arcs; words = words; enums = enums; unknowns = unknowns }

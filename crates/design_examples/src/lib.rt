@@ -2,10 +2,10 @@
 //! body.
 #![tactic(auto)]
 
-ghost use Rattle.answers.specs.Refusals.{BadShape, Missing, NoDevice, NotJson, UnknownSink, UnknownSource, UnknownTile, WordLength};
+ghost use Rattle.answers.specs.Refusals.{BadLine, BadShape, Missing, NoDevice, NotJson, UnknownSink, UnknownSource, UnknownTile, WordLength};
 ghost use Rattle.config_grammar.specs.ConfigPrint.{config_text};
 ghost use Rattle.design_checks.specs.LineChecks.{line_refusal};
-ghost use Rattle.design_examples.specs.Faulty.{arc_before_word, files_of, good_config, good_grid, inputs, no_tile, one_number, word_before_arc};
+ghost use Rattle.design_examples.specs.Faulty.{arc_before_word, files_of, good_config, good_grid, inputs, no_cells, no_kinds, no_tile, one_number, one_tile, with_faulty_database, word_before_arc};
 ghost use Rattle.design_examples.specs.Texts.{toggle_side_text, toggle_text};
 ghost use Rattle.design_files.specs.Designs.{design_of};
 ghost use Rattle.fabric_laws.specs.PlainGraph.{graph_of};
@@ -21,13 +21,15 @@ pub fn texts_of_toggle()
 {}
 
 /// Where two files have faults, the one that is read first decides: the configuration, the grid of its device, the
-/// profile, the side file.
+/// profile, the side file, the databases.
 pub fn first_faulty_file_decides()
     ensures nothing { design_of (files_of None None None None) inputs ≡ Err (Missing (codes "c")) }
     ensures no_device { design_of (files_of (Some (codes "")) None None None) inputs ≡ Err (NoDevice (codes "c")) }
     ensures no_grid { design_of (files_of good_config None (Some (codes "[")) None) inputs ≡ Err (Missing (codes "f/D/tilegrid.json")) }
     ensures profile { design_of (files_of good_config good_grid (Some (codes "[")) None) inputs ≡ Err (NotJson (codes "p")) }
     ensures shape { design_of (files_of good_config good_grid (Some (codes "{}")) None) inputs ≡ Err (BadShape (codes "p") (codes "chip_prefix")) }
+    ensures side { design_of (with_faulty_database (files_of good_config one_tile no_kinds (Some (codes "[")))) inputs ≡ Err (NotJson (codes "s")) }
+    ensures database { design_of (with_faulty_database (files_of good_config one_tile no_kinds no_cells)) inputs ≡ Err (BadLine (codes "f/tiledata/T/bits.db") 2) }
 {}
 
 /// Where two lines have faults, the lower number decides, and of equal numbers the first in written order.

@@ -19,7 +19,7 @@ use Rattle.formed_laws.proofs.Formed.{read_mux_bits_masked}
 use Rattle.formed_examples.proofs.Texts.{profile_read, side_read}
 
 -- no number of a list stands behind itself
-abbrev none_again : List ℕ → Bool
+abbrev pub none_again : List ℕ → Bool
 none_again [] = true
 none_again (x ∷ xs) = not (has xs x) && none_again xs
 
@@ -27,7 +27,7 @@ not_both : (b : Bool) → not b ≡ true → b ≡ true → ⊥
 not_both true h e = false≢true h
 not_both false h e = false≢true e
 
-none_twice : (xs : List ℕ) → none_again xs ≡ true → HasNoneTwice xs
+pub none_twice : (xs : List ℕ) → none_again xs ≡ true → HasNoneTwice xs
 none_twice [] h = tt
 none_twice (x ∷ xs) h =
     let parts = and_parts (not (has xs x)) (none_again xs) h in

@@ -12,7 +12,7 @@ use Rattle.circuit.specs.Circuits.{Circuit}
 use Rattle.circuit_laws.proofs.Sound.{Sound}
 use Rattle.circuit_examples.proofs.Formed.{well_formed}
 use Rattle.refusal_examples.proofs.Whole.{TextPasses}
-use Rattle.refusal_examples.specs.Refused.{circuit_with, cells_with_word, unmasked, reading_d, unclocked}
+use Rattle.refusal_examples.specs.Refused.{on_toggle, circuit_with, cells_with_word, unmasked, reading_d, unclocked}
 
 abbrev pub g : Graph
 g = graph_of mini_a
@@ -59,11 +59,11 @@ unclocked_sound = record {
   });
 }
 
-pub unmasked_text : TextPasses unmasked
+pub unmasked_text : TextPasses (on_toggle unmasked) g
 unmasked_text = record { lines = refl; agree = (agreeing mini_a g (has_graph mini_a) (image_of g unmasked) unmasked).0 refl; clean = unmasked_sound.clean; no_cell = refl }
 
-pub reading_text : TextPasses reading_d
+pub reading_text : TextPasses (on_toggle reading_d) g
 reading_text = record { lines = refl; agree = (agreeing mini_a g (has_graph mini_a) (image_of g reading_d) reading_d).0 refl; clean = reading_sound.clean; no_cell = refl }
 
-pub unclocked_text : TextPasses unclocked
+pub unclocked_text : TextPasses (on_toggle unclocked) g
 unclocked_text = record { lines = refl; agree = (agreeing mini_a g (has_graph mini_a) (image_of g unclocked) unclocked).0 refl; clean = unclocked_sound.clean; no_cell = refl }

@@ -46,7 +46,7 @@ g = graph_of mini_b
 abbrev pub c : Circuit
 c = turned_circuit g
 
-ok : Sound c
+pub ok : Sound c
 ok = record {
   clean = clean_once c.routing refl;
   formed = well_formed c (record {

@@ -8,3 +8,6 @@ pub mod BadBits
 pub mod Loops
 pub mod Copies
 pub mod Whole
+pub mod Devices
+pub mod SecondArc
+pub mod ReadCorridors

@@ -1,18 +1,23 @@
 -- Tests of what the checks of sources and of loops refuse.
-use Rattle.std.proofs.Common.{◌≡◌, ◌≢◌, ℕ, Bool, true, false, not, ap, ◌&&◌, eqb}
+use Rattle.std.proofs.Common.{◌≡◌, ◌≢◌, ℕ, Bool, true, false, not, Some, refl, ap, ◌&&◌, eqb}
+use Rattle.std.specs.Prelude.{slice_get}
 use Rattle.std.specs.List.{list_all, list_any}
 use Rattle.words.specs.Members.{In}
 use Rattle.links.specs.Links.{Reaches, here, onto}
 use Rattle.links.proofs.Below.{below, below_complete, has, has_in, in_has}
+use Rattle.fabric.specs.Wires.{Wire}
+use Rattle.fabric.specs.Graph.{Graph}
 use Rattle.fabric_laws.proofs.Members.{is_false}
+use Rattle.fabric_examples.proofs.Tests.{is_feed, feed}
 use Rattle.circuit.specs.Parts.{PartRef, Kind, OfTable, Source, sources}
 use Rattle.circuit.specs.Pins.{PinRef, Pin, bit_pins, pins}
 use Rattle.circuit.specs.Circuits.{Circuit, Reads}
 use Rattle.circuit_laws.proofs.Parts.{table_bit}
 use Rattle.circuit_laws.proofs.Sound.{at_pin}
+use Rattle.answers.specs.Refusals.{UnnamedSource}
 use Rattle.attempts.specs.PinOrder.{part_cmp, pin_cmp}
 use Rattle.design_checks.specs.Checks.{IsLeast}
-use Rattle.design_checks.specs.PinChecks.{IsFedUnnamed, IsOnLoop}
+use Rattle.design_checks.specs.PinChecks.{IsFedUnnamed, SourceUnnamed, unnamed, IsOnLoop}
 use Rattle.circuit_examples.proofs.Tests.{implies, all_in, any_in, any_at, and_both, number_is, is_number, clash}
 use Rattle.circuit_examples.proofs.Feeding.{feeds, is_feeds}
 use Rattle.refusal_examples.proofs.Tests.{is_after, Told, least_by}
@@ -51,6 +56,13 @@ module _ (c : Circuit) where
   pub least_unnamed : (ref : PinRef) (o : ℕ) → IsFedUnnamed c ref o → list_all (λ p. implies (is_fed_unnamed p) (not (is_after (pin_cmp ref p.ref)))) (pins c.cells) ≡ true
       → IsLeast pin_cmp (λ pin. (x : ℕ) × IsFedUnnamed c pin x) ref
   least_unnamed ref o h all = least_by pin_cmp (λ pin. (x : ℕ) × IsFedUnnamed c pin x) (pins c.cells) (λ p. p.ref) is_fed_unnamed ref (o, h) unnamed_told all
+
+  -- a pin that a cell output without a name feeds, where no such pin comes before it
+  pub unnamed_at : (g : Graph) (p : Pin) (o : ℕ) (wire : Wire) → In (pins c.cells) p → is_feed c.routing o p.wire ≡ true → not (is_modelled o) ≡ true
+      → list_all (λ x. implies (is_fed_unnamed x) (not (is_after (pin_cmp p.ref x.ref)))) (pins c.cells) ≡ true → slice_get g.wires o ≡ Some wire → SourceUnnamed g c (UnnamedSource p.ref wire)
+  unnamed_at g p o wire i fed_by without_name all named =
+      let fed : IsFedUnnamed c p.ref o = record { pin = p; listed = i; is = refl; feeds = feed c.routing o p.wire fed_by; unnamed = not_modelled o without_name } in
+      unnamed p.ref o wire (least_unnamed p.ref o fed all) fed named
 
   -- ---- loops
 

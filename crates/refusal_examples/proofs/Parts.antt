@@ -3,17 +3,23 @@ use Rattle.std.proofs.Common.{◌≡◌, ℕ, Bool, true, false, not, List, ◌+
 use Rattle.std.specs.List.{list_all, flat_map}
 use Rattle.words.specs.Members.{In}
 use Rattle.links.specs.Links.{Fed}
+use Rattle.links.proofs.Below.{below, below_complete, has, has_in}
 use Rattle.links.proofs.Members.{in_left, in_right, in_map, in_flat_map}
 use Rattle.fabric_laws.proofs.Members.{is_false}
 use Rattle.circuit.specs.Parts.{PartRef, Kind, OfRegister, Source, sources, output_pads}
-use Rattle.circuit.specs.Pins.{PinRef, Pin, bit_pins, pad_pin}
+use Rattle.circuit.specs.Pins.{PinRef, Pin, bit_pins, pad_pin, pins}
 use Rattle.circuit.specs.Circuits.{Circuit}
+use Rattle.circuit.specs.Tables.{Ignores}
+use Rattle.circuit.specs.Triplicated.{ReadPart}
+use Rattle.circuit_laws.proofs.Sound.{to_pin}
+use Rattle.answers.specs.Refusals.{OpenPin}
 use Rattle.attempts.specs.PinOrder.{part_cmp, pin_cmp}
 use Rattle.design_checks.specs.Checks.{IsLeast}
-use Rattle.design_checks.specs.PinChecks.{IsOpen, of_part, of_pad, IsUnclocked}
-use Rattle.circuit_examples.proofs.Tests.{implies}
-use Rattle.circuit_examples.proofs.Feeding.{fed, fed_is}
+use Rattle.design_checks.specs.PinChecks.{IsOpen, of_part, of_pad, PinsOpen, open_pin, IsUnclocked}
+use Rattle.circuit_examples.proofs.Tests.{implies, any_at, clash}
+use Rattle.circuit_examples.proofs.Feeding.{feeds, feeds_is, fed, fed_is}
 use Rattle.refusal_examples.proofs.Tests.{is_after, Told, least_by}
+use Rattle.refusal_examples.proofs.Loops.{listed_outputs}
 
 module _ (c : Circuit) where
   -- the pins of parts that count as bits, and those of output pads
@@ -29,6 +35,17 @@ module _ (c : Circuit) where
 
   pub least_open : (ref : PinRef) → IsOpen c ref → list_all (λ p. implies (not (fed c p.wire)) (not (is_after (pin_cmp ref p.ref)))) bits_and_pads ≡ true → IsLeast pin_cmp (IsOpen c) ref
   least_open ref h all = least_by pin_cmp (IsOpen c) bits_and_pads (λ p. p.ref) (λ p. not (fed c p.wire)) ref h open_told all
+
+  fed_told : (w : ℕ) → Fed c.routing w → fed c w ≡ true
+  fed_told w f = any_at (λ o. has (below c.routing.links o) w) c.routing.outputs f.0 f.1.output (has_in (below c.routing.links f.0) w (below_complete c.routing.links f.1.reach))
+
+  -- a pin without a feed, of a part that heeds it and feeds another pin, where no such pin comes before it
+  pub open_at : (s : Source) (p q : Pin) → In (sources c.cells) s → In (bit_pins s) p → In (pins c.cells) q → list_all (λ x. has c.routing.outputs x.out) (sources c.cells) ≡ true
+      → feeds c s q.wire ≡ true → not (fed c p.wire) ≡ true → (Ignores s.kind p.ref.pin → ⊥) → list_all (λ x. implies (not (fed c x.wire)) (not (is_after (pin_cmp p.ref x.ref)))) bits_and_pads ≡ true
+      → PinsOpen c (OpenPin p.ref)
+  open_at s p q js ip jq outputs reads dry heeded all =
+      let read : ReadPart c s = record { listed = js; read = (q, to_pin c s q jq (feeds_is c (listed_outputs c outputs) s q.wire js reads)) } in
+      open_pin p.ref (least_open p.ref (of_part s p read ip ((λ f. clash (fed c p.wire) (fed_told p.wire f) dry), heeded)) all)
 
   abbrev pub is_register : Kind → Bool
   is_register (OfRegister r) = true

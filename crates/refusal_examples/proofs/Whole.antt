@@ -1,101 +1,105 @@
--- What a check refuses of a text on the toggle's device is refused of the whole design, where the checks before it pass.
-use Rattle.std.proofs.Common.{◌≡◌, Bool, true, false, not, map, inl, inr, Option, None, Ok, refl, ap}
+-- What a check refuses is refused of the whole design, where the checks before it pass.
+use Rattle.std.proofs.Common.{◌≡◌, Bool, true, false, not, map, inl, inr, Option, None, Ok, ap}
 use Rattle.std.specs.List.{list_all, flat_map}
+use Rattle.patterns.specs.Bits.{Bits}
 use Rattle.links.specs.Links.{IsClean}
-use Rattle.records.specs.Config.{Config}
 use Rattle.fabric.specs.Graph.{Graph}
 use Rattle.fabric.specs.Image.{image_of}
 use Rattle.fabric.specs.Links.{is_chosen, routing_of}
 use Rattle.fabric.specs.Agree.{ArcsAgree}
-use Rattle.fabric_laws.specs.PlainGraph.{graph_of}
 use Rattle.circuit.specs.Cells.{Cells}
 use Rattle.circuit.specs.Parts.{Kind, OfClock, Source, sources, output_pads}
 use Rattle.circuit.specs.Pins.{Pin, PinRef, bit_pins, pad_pin, pins}
 use Rattle.circuit.specs.Circuits.{Circuit}
-use Rattle.circuit.specs.Triplicated.{OpenPinsIgnored, FedByClock, ClocksAreClocks, ReadsOwnDomain}
+use Rattle.circuit.specs.Triplicated.{OpenPinsIgnored, FedByClock, ClocksAreClocks, ReadsOwnDomain, TablesMask, NoTableLoop}
 use Rattle.cells.specs.CellsOf.{cells_of}
+use Rattle.upset.specs.Configured.{circuit_of}
 use Rattle.answers.specs.Refusals.{Refusal}
-use Rattle.mini.specs.MiniA.{mini_a}
-use Rattle.mini.specs.Toggle.{toggle_side}
+use Rattle.design_files.specs.Designs.{Design}
+use Rattle.formed_laws.specs.Designs.{NoOverlap}
 use Rattle.design_checks.specs.Checks.{Passes, ◌before◌, Computed}
 use Rattle.design_checks.specs.GraphChecks.{graph_size_refusal, Overlap}
 use Rattle.design_checks.specs.LineChecks.{line_refusal}
 use Rattle.design_checks.specs.RoutingChecks.{ArcsDiffer, differ, AreContested, contested}
 use Rattle.design_checks.specs.CellChecks.{cell_refusal}
 use Rattle.design_checks.specs.PinChecks.{SourceUnnamed, unnamed, TablesLoop, loop, IsOpen, of_part, of_pad, PinsOpen, open_pin, TakesClock, ClocksAsData, clock, RegistersUnclocked, unclocked, ReadsForeign, PinsForeign, foreign}
-use Rattle.design_checks.specs.MaskChecks.{TablesFail}
-use Rattle.design_checks.specs.DesignChecks.{GraphRefused, TextRefused, CircuitRefused, in_circuit, DesignRefused}
+use Rattle.design_checks.specs.MaskChecks.{TablesFail, fails}
+use Rattle.design_checks.specs.CopyChecks.{CopiesUnlike}
+use Rattle.design_checks.specs.DesignChecks.{GraphRefused, TextRefused, CircuitRefused, configured_as, in_circuit, DesignRefused}
 use Rattle.check_laws.proofs.Passing.{both_pass}
 use Rattle.check_laws.proofs.Overlaps.{overlap_passes}
-use Rattle.formed_examples.proofs.Read.{toggle_read}
 use Rattle.circuit_examples.proofs.Tests.{all_in, clash, implies, implied}
 use Rattle.circuit_examples.proofs.Feeding.{feeds, is_feeds}
 use Rattle.circuit_laws.proofs.Sound.{at_pin}
 use Rattle.links.proofs.Members.{in_left, in_right, in_map, in_flat_map}
 use Rattle.refusal_examples.proofs.Parts.{bits_and_pads}
-use Rattle.refusal_examples.specs.Refused.{on_toggle, circuit_with}
 use Rattle.refusal_examples.proofs.Loops.{is_fed_unnamed, unnamed_told, reads_table, loop_told}
-
-abbrev g : Graph
-g = graph_of mini_a
 
 no_refusal : (o : Option Refusal) → o ≡ None → Passes (Computed o)
 no_refusal o e r h = (let wrong : ⊥ = cc in wrong)
 
-graph_passes : (config : Config) → Passes (GraphRefused (on_toggle config) g)
-graph_passes config = both_pass (Computed (graph_size_refusal g)) (Overlap mini_a g) (no_refusal (graph_size_refusal g) refl) (overlap_passes mini_a g toggle_read.outputs)
+-- the graph is within its limits, and no output stands twice
+pub graph_passes : (design : Design) (g : Graph) → graph_size_refusal g ≡ None → NoOverlap design.device g → Passes (GraphRefused design g)
+graph_passes design g small apart = both_pass (Computed (graph_size_refusal g)) (Overlap design.device g) (no_refusal (graph_size_refusal g) small) (overlap_passes design.device g apart)
 
 true_false : (b : Bool) → b ≡ true → b ≡ false → ⊥
 true_false b e f = (let wrong : ⊥ = cc in wrong)
 
-arcs_pass : (config : Config) → ArcsAgree g (image_of g config) config → Passes (ArcsDiffer g (image_of g config) config)
-arcs_pass config agree _ (differ name l) = elim l.has.differs [
-  | inl h ↦ h.1.1 (agree.chosen_has_line l.has.arc l.has.listed h.0 h.1.0)
-  | inr h ↦ true_false (is_chosen g (image_of g config) l.has.arc) (agree.line_is_chosen l.has.arc h.0) h.1
-]
+-- what the checks of a text pass
+pub record TextPasses (design : Design) (g : Graph) : Type 0 where
+  pub lines : line_refusal g design.config ≡ None
+  pub agree : ArcsAgree g (image_of g design.config) design.config
+  pub clean : IsClean (routing_of g (image_of g design.config))
+  pub no_cell : cell_refusal g design.device.profile (image_of g design.config) design.side ≡ None
 
-clean_passes : (config : Config) → IsClean (routing_of g (image_of g config)) → Passes (AreContested g (image_of g config))
-clean_passes config clean _ (contested w x y wire first second l are e f s) = elim l.has [
-  | inl h ↦ h.1.1.1.1 (clean.one_driver w h.0 h.1.0 h.1.1.0 h.1.1.1.0)
-  | inr h ↦ clean.outputs_undriven w h.1.0 h.0 h.1.1
-]
+module _ (design : Design) (g : Graph) where
+  abbrev image : Bits
+  image = image_of g design.config
 
--- ---- the text
+  arcs_pass : ArcsAgree g image design.config → Passes (ArcsDiffer g image design.config)
+  arcs_pass agree _ (differ name l) = elim l.has.differs [
+    | inl h ↦ h.1.1 (agree.chosen_has_line l.has.arc l.has.listed h.0 h.1.0)
+    | inr h ↦ true_false (is_chosen g image l.has.arc) (agree.line_is_chosen l.has.arc h.0) h.1
+  ]
 
-pub refused_at_arcs : (config : Config) → line_refusal g config ≡ None → (r : Refusal) → ArcsDiffer g (image_of g config) config r → DesignRefused (on_toggle config) g r
-refused_at_arcs config lines r h = inr (graph_passes config, inl (inr (no_refusal (line_refusal g config) lines, inl h)))
+  clean_passes : IsClean (routing_of g image) → Passes (AreContested g image)
+  clean_passes clean _ (contested w x y wire first second l are e f s) = elim l.has [
+    | inl h ↦ h.1.1.1.1 (clean.one_driver w h.0 h.1.0 h.1.1.0 h.1.1.1.0)
+    | inr h ↦ clean.outputs_undriven w h.1.0 h.0 h.1.1
+  ]
 
-pub refused_at_drivers : (config : Config) → line_refusal g config ≡ None → ArcsAgree g (image_of g config) config → (r : Refusal) → AreContested g (image_of g config) r → DesignRefused (on_toggle config) g r
-refused_at_drivers config lines agree r h = inr (graph_passes config, inl (inr (no_refusal (line_refusal g config) lines, inr (arcs_pass config agree, inl h))))
+  text_passes : TextPasses design g → Passes (TextRefused design g)
+  text_passes p =
+      both_pass (Computed (line_refusal g design.config)) (ArcsDiffer g image design.config before AreContested g image before Computed (cell_refusal g design.device.profile image design.side))
+      (no_refusal (line_refusal g design.config) p.lines)
+      (both_pass (ArcsDiffer g image design.config) (AreContested g image before Computed (cell_refusal g design.device.profile image design.side)) (arcs_pass p.agree)
+      (both_pass (AreContested g image) (Computed (cell_refusal g design.device.profile image design.side)) (clean_passes p.clean)
+      (no_refusal (cell_refusal g design.device.profile image design.side) p.no_cell)))
+
+  module _ (graph : Passes (GraphRefused design g)) where
+    pub refused_at_arcs : line_refusal g design.config ≡ None → (r : Refusal) → ArcsDiffer g (image_of g design.config) design.config r → DesignRefused design g r
+    refused_at_arcs lines r h = inr (graph, inl (inr (no_refusal (line_refusal g design.config) lines, inl h)))
+
+    pub refused_at_drivers : line_refusal g design.config ≡ None → ArcsAgree g (image_of g design.config) design.config → (r : Refusal) → AreContested g (image_of g design.config) r → DesignRefused design g r
+    refused_at_drivers lines agree r h = inr (graph, inl (inr (no_refusal (line_refusal g design.config) lines, inr (arcs_pass agree, inl h))))
+
+    pub refused_in_circuit : (cells : Cells) → TextPasses design g → cells_of g design.device.profile (image_of g design.config) design.side ≡ Ok cells → (r : Refusal)
+        → CircuitRefused g (circuit_of (configured_as design g cells)) r → DesignRefused design g r
+    refused_in_circuit cells passes are r h = inr (graph, inr (text_passes passes, in_circuit cells are h))
 
 -- ---- the circuit
 
-pub record TextPasses (config : Config) : Type 0 where
-  pub lines : line_refusal g config ≡ None
-  pub agree : ArcsAgree g (image_of g config) config
-  pub clean : IsClean (routing_of g (image_of g config))
-  pub no_cell : cell_refusal g mini_a.profile (image_of g config) toggle_side ≡ None
-
-text_passes : (config : Config) → TextPasses config → Passes (TextRefused (on_toggle config) g)
-text_passes config p = (let image = image_of g config in
-    both_pass (Computed (line_refusal g config)) (ArcsDiffer g image config before AreContested g image before Computed (cell_refusal g mini_a.profile image toggle_side))
-    (no_refusal (line_refusal g config) p.lines)
-    (both_pass (ArcsDiffer g image config) (AreContested g image before Computed (cell_refusal g mini_a.profile image toggle_side)) (arcs_pass config p.agree)
-    (both_pass (AreContested g image) (Computed (cell_refusal g mini_a.profile image toggle_side)) (clean_passes config p.clean)
-    (no_refusal (cell_refusal g mini_a.profile image toggle_side) p.no_cell))))
-
-pub refused_in_circuit : (config : Config) (cells : Cells) → TextPasses config → cells_of g mini_a.profile (image_of g config) toggle_side ≡ Ok cells → (r : Refusal)
-    → CircuitRefused g (circuit_with g config cells) r → DesignRefused (on_toggle config) g r
-refused_in_circuit config cells passes are r h = inr (graph_passes config, inr (text_passes config passes, in_circuit cells are h))
-
 module _ (c : Circuit) where
-  pub named_pass : list_all (λ p. not (is_fed_unnamed c p)) (pins c.cells) ≡ true → Passes (SourceUnnamed g c)
-  named_pass h _ (unnamed ref o wire l k e) = (let t = unnamed_told c ref (o, k) in
+  pub named_pass : (g : Graph) → list_all (λ p. not (is_fed_unnamed c p)) (pins c.cells) ≡ true → Passes (SourceUnnamed g c)
+  named_pass g h _ (unnamed ref o wire l k e) = (let t = unnamed_told c ref (o, k) in
       clash (is_fed_unnamed c t.0) t.1.1.1 (all_in (λ (p : Pin). not (is_fed_unnamed c p)) (pins c.cells) t.0 h t.1.0))
 
   pub loops_pass : list_all (λ s. not (reads_table c s)) (sources c.cells) ≡ true → Passes (TablesLoop c)
   loops_pass h _ (loop part l) = (let t = loop_told c part l.has in
       clash (reads_table c t.0) t.1.1.1 (all_in (λ (s : Source). not (reads_table c s)) (sources c.cells) t.0 h t.1.0))
+
+  pub no_loop_passes : NoTableLoop c → Passes (TablesLoop c)
+  no_loop_passes free _ (loop part l) = free l.has.source l.has.next l.has.reads l.has.back
 
   none_open : OpenPinsIgnored c → (ref : PinRef) → IsOpen c ref → ⊥
   none_open ignored _ (of_part s p rs ip h) = h.1 (ignored.parts s p rs ip h.0)
@@ -121,13 +125,28 @@ module _ (c : Circuit) where
   pub own_pass : ReadsOwnDomain c → Passes (PinsForeign c)
   own_pass own _ (foreign ref l) = none_foreign own ref l.has
 
-  -- an open pin, and a table that doesn't mask, are refused where all checks before pass
-  pub refused_at_open : Passes (SourceUnnamed g c) → Passes (TablesLoop c) → (r : Refusal) → PinsOpen c r → CircuitRefused g c r
-  refused_at_open named flat r h = inr (named, inr (flat, inl h))
+  pub masks_pass : TablesMask c → Passes (TablesFail c)
+  masks_pass masks _ (fails part n l k) = (let h = k.has in h.differs (masks h.source h.table h.read h.is_table h.other h.bits h.before h.after h.foreign h.assigned h.same))
 
-  pub refused_at_tables : Passes (SourceUnnamed g c) → Passes (TablesLoop c) → OpenPinsIgnored c → ClocksAreClocks c → ReadsOwnDomain c → (r : Refusal) → TablesFail c r → CircuitRefused g c r
-  refused_at_tables named flat ignored clocks own r h =
+  -- a source without a name, a loop, an open pin, a table that doesn't mask, and copies that differ are refused where all
+  -- checks before pass
+  pub refused_at_sources : (g : Graph) (r : Refusal) → SourceUnnamed g c r → CircuitRefused g c r
+  refused_at_sources g r h = inl h
+
+  pub refused_at_loops : (g : Graph) → Passes (SourceUnnamed g c) → (r : Refusal) → TablesLoop c r → CircuitRefused g c r
+  refused_at_loops g named r h = inr (named, inl h)
+
+  pub refused_at_open : (g : Graph) → Passes (SourceUnnamed g c) → Passes (TablesLoop c) → (r : Refusal) → PinsOpen c r → CircuitRefused g c r
+  refused_at_open g named flat r h = inr (named, inr (flat, inl h))
+
+  pub refused_at_tables : (g : Graph) → Passes (SourceUnnamed g c) → Passes (TablesLoop c) → OpenPinsIgnored c → ClocksAreClocks c → ReadsOwnDomain c → (r : Refusal) → TablesFail c r → CircuitRefused g c r
+  refused_at_tables g named flat ignored clocks own r h =
       inr (named, inr (flat, inr (open_pass ignored, inr (data_pass clocks, inr (clocked_pass clocks, inr (own_pass own, inl h))))))
+
+  pub refused_at_copies : (g : Graph) → Passes (SourceUnnamed g c) → Passes (TablesLoop c) → OpenPinsIgnored c → ClocksAreClocks c → ReadsOwnDomain c → TablesMask c → (r : Refusal) → CopiesUnlike c r
+      → CircuitRefused g c r
+  refused_at_copies g named flat ignored clocks own masks r h =
+      inr (named, inr (flat, inr (open_pass ignored, inr (data_pass clocks, inr (clocked_pass clocks, inr (own_pass own, inr (masks_pass masks, inl h)))))))
 
   -- a clock pad feeds no pin that counts as a bit
   abbrev is_clock : Kind → Bool
@@ -151,5 +170,5 @@ module _ (c : Circuit) where
   dataless all _ (clock ref l) = none_is_clock all ref l.has
 
   -- and so is a register without a clock
-  pub refused_at_clocks : Passes (SourceUnnamed g c) → Passes (TablesLoop c) → OpenPinsIgnored c → list_all clockless (bits_and_pads c) ≡ true → (r : Refusal) → RegistersUnclocked c r → CircuitRefused g c r
-  refused_at_clocks named flat ignored all r h = inr (named, inr (flat, inr (open_pass ignored, inr (dataless all, inl h))))
+  pub refused_at_clocks : (g : Graph) → Passes (SourceUnnamed g c) → Passes (TablesLoop c) → OpenPinsIgnored c → list_all clockless (bits_and_pads c) ≡ true → (r : Refusal) → RegistersUnclocked c r → CircuitRefused g c r
+  refused_at_clocks g named flat ignored all r h = inr (named, inr (flat, inr (open_pass ignored, inr (dataless all, inl h))))

@@ -1,5 +1,5 @@
 -- The corridor with a fault, and its circuit. (Our own.)
-use Rattle.std.specs.Prelude.{map, drop, bytes_eq, codes, if◌then◌else◌}
+use Rattle.std.specs.Prelude.{[], ◌∷◌, map, drop, bytes_eq, codes, if◌then◌else◌}
 use Rattle.records.specs.Config.{Config}
 use Rattle.records.specs.Side.{Side}
 use Rattle.fabric.specs.Graph.{Graph}
@@ -12,7 +12,7 @@ use Rattle.mini.specs.Toggle.{line}
 use Rattle.mini_b.specs.MiniB.{mini_b}
 use Rattle.mini_b.specs.Corridor.{corridor, corridor_side}
 use Rattle.mini_b.specs.CorridorCells.{corridor_cells}
-use Rattle.refusal_examples.specs.Changed.{with_arc, without_arc, with_word}
+use Rattle.refusal_examples.specs.Changed.{in_section, with_arc, without_arc, with_word}
 use Rattle.refusal_examples.specs.Refused.{slice_with_word}
 
 abbrev pub on_corridor : Config → Side → Design
@@ -34,6 +34,13 @@ cells_without_u g = record (corridor_cells g) { slices = drop 3 (corridor_cells 
 
 abbrev pub unnamed_circuit : Graph → Circuit
 unnamed_circuit g = circuit_of (configured_as (on_corridor corridor side_without_u) g (cells_without_u g))
+
+-- the corridor with a bit set in the unused mux U of the first slice
+abbrev pub stray_track : Config
+stray_track = in_section (codes "R1C1:SLC") (λ text. record text { unknowns = record { frame = 2; bit = 2; line = 0 } ∷ [] }) corridor
+
+abbrev pub stray_unnamed_circuit : Graph → Circuit
+stray_unnamed_circuit g = circuit_of (configured_as (on_corridor stray_track side_without_u) g (cells_without_u g))
 
 -- w1 gives the opposite of its pin
 abbrev pub turned : Config

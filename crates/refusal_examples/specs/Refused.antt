@@ -8,9 +8,9 @@ use Rattle.upset.specs.Configured.{circuit_of}
 use Rattle.design_files.specs.Designs.{Design}
 use Rattle.design_checks.specs.DesignChecks.{configured_as}
 use Rattle.mini.specs.MiniA.{mini_a}
-use Rattle.mini.specs.Toggle.{toggle, toggle_side}
+use Rattle.mini.specs.Toggle.{line, toggle, crossed, toggle_side}
 use Rattle.mini.specs.ToggleCells.{toggle_cells}
-use Rattle.refusal_examples.specs.Changed.{with_word, without_arc}
+use Rattle.refusal_examples.specs.Changed.{with_word, with_arc, without_arc}
 
 -- a text with the side file of the toggle
 abbrev pub on_toggle : Config → Design
@@ -43,3 +43,11 @@ reading_d = with_word (codes "R1C1:MLC") (codes "1001011100010111") toggle
 -- the register of a0 has no clock
 abbrev pub unclocked : Config
 unclocked = without_arc (codes "R1C1:MLC") (codes "CK") toggle
+
+-- pin A of a2 has a second arc
+abbrev pub second_arc : Config
+second_arc = with_arc (codes "R1C3:MLC") (line (codes "A") (codes "H0")) crossed
+
+-- and the word of a0 reads pin D
+abbrev pub second_arc_reading_d : Config
+second_arc_reading_d = with_word (codes "R1C1:MLC") (codes "1001011100010111") second_arc

@@ -16,6 +16,7 @@ use Rattle.answers.specs.Refusals.{NotClocked}
 use Rattle.refusal_examples.specs.Refused as refused
 use Rattle.refusal_examples.proofs.Whole.{refused_in_circuit, refused_at_clocks, named_pass, loops_pass}
 use Rattle.refusal_examples.proofs.Parts.{least_unclocked}
+use Rattle.refusal_examples.proofs.Devices.{toggle_graph}
 use Rattle.refusal_examples.proofs.missing_clock_is_refused.Goals as goal
 
 abbrev cell : RegisterCell
@@ -57,6 +58,6 @@ pub returns : goal.returns
 returns c = record {
   cells = refl;
   refused = registers_unclocked;
-  first = refused_in_circuit refused.unclocked (toggle_cells g) unclocked_text refl (NotClocked register.part)
-      (refused_at_clocks unclocked_circuit (named_pass unclocked_circuit refl) (loops_pass unclocked_circuit refl) (open_pins unclocked_circuit (record { parts = refl; pads = refl })) refl (NotClocked register.part) registers_unclocked);
+  first = refused_in_circuit (refused.on_toggle refused.unclocked) g (toggle_graph refused.unclocked) (toggle_cells g) unclocked_text refl (NotClocked register.part)
+      (refused_at_clocks unclocked_circuit g (named_pass unclocked_circuit g refl) (loops_pass unclocked_circuit refl) (open_pins unclocked_circuit (record { parts = refl; pads = refl })) refl (NotClocked register.part) registers_unclocked);
 }

@@ -8,7 +8,9 @@ use Rattle.mini.specs.MiniA.{mini_a}
 use Rattle.fabric_examples.specs.Faulty.{stray_bit}
 use Rattle.design_checks.specs.RoutingChecks.{MuxName, Differs, ArcsDiffer, differ}
 use Rattle.answers.specs.Refusals.{ArcDiffers}
+use Rattle.refusal_examples.specs.Refused.{on_toggle}
 use Rattle.refusal_examples.proofs.Whole.{refused_at_arcs}
+use Rattle.refusal_examples.proofs.Devices.{toggle_graph}
 use Rattle.refusal_examples.proofs.Arcs.{lineless, least_differs}
 use Rattle.refusal_examples.proofs.stray_bit_is_refused.Goals as goal
 
@@ -35,4 +37,4 @@ arcs_differ : ArcsDiffer g (image_of g stray_bit) stray_bit (ArcDiffers (codes "
 arcs_differ = differ name (least_differs mini_a g (has_graph mini_a) stray_bit (image_of g stray_bit) name differs refl)
 
 pub returns : goal.returns
-returns c = record { refused = arcs_differ; first = refused_at_arcs stray_bit refl (ArcDiffers (codes "R1C1:MLC") (codes "H5")) arcs_differ }
+returns c = record { refused = arcs_differ; first = refused_at_arcs (on_toggle stray_bit) g (toggle_graph stray_bit) refl (ArcDiffers (codes "R1C1:MLC") (codes "H5")) arcs_differ }

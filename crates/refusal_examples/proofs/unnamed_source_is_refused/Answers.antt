@@ -1,15 +1,24 @@
-use Rattle.std.proofs.Common.{ℕ, inl, inr, refl, codes}
+use Rattle.std.proofs.Common.{ℕ, pos, inl, inr, refl, codes}
 use Rattle.circuit.specs.Parts.{Table}
 use Rattle.circuit.specs.Pins.{Pin, pin_at}
 use Rattle.circuit.specs.Circuits.{Circuit}
 use Rattle.fabric.specs.Graph.{Graph}
+use Rattle.fabric.specs.Wires.{Wire, Local}
+use Rattle.fabric.specs.Image.{image_of}
 use Rattle.fabric_laws.specs.PlainGraph.{graph_of}
-use Rattle.fabric_examples.proofs.Tests.{feed}
+use Rattle.fabric_laws.proofs.Graphs.{has_graph}
+use Rattle.fabric_laws.proofs.Agreeing.{agreeing}
+use Rattle.fabric_examples.proofs.Tests.{clean_once}
 use Rattle.mini.specs.ToggleCells.{wire_at}
 use Rattle.mini_b.specs.MiniB.{mini_b}
-use Rattle.design_checks.specs.PinChecks.{IsFedUnnamed, unnamed}
-use Rattle.refusal_examples.specs.CorridorRefused.{unnamed_circuit}
-use Rattle.refusal_examples.proofs.Loops.{not_modelled, least_unnamed}
+use Rattle.mini_b.specs.Corridor.{corridor}
+use Rattle.design_checks.specs.PinChecks.{SourceUnnamed}
+use Rattle.answers.specs.Refusals.{UnnamedSource}
+use Rattle.refusal_examples.specs.CorridorRefused.{on_corridor, side_without_u, cells_without_u, unnamed_circuit}
+use Rattle.refusal_examples.proofs.Loops.{unnamed_at}
+use Rattle.refusal_examples.proofs.Whole.{TextPasses, refused_in_circuit, refused_at_sources}
+use Rattle.refusal_examples.proofs.Devices.{corridor_graph}
+use Rattle.refusal_examples.proofs.ReadCorridors.{unnamed_read}
 use Rattle.refusal_examples.proofs.unnamed_source_is_refused.Goals as goal
 
 abbrev g : Graph
@@ -25,14 +34,18 @@ pin = pin_at (record { cell = codes "w0"; part = Table 0 }) 0 (wire_at g 1 3 (co
 abbrev output : ℕ
 output = wire_at g 1 1 (codes "F")
 
-fed_unnamed : IsFedUnnamed circuit pin.ref output
-fed_unnamed = record {
-  pin = pin;
-  listed = inr (inr (inr (inl refl)));
-  is = refl;
-  feeds = feed circuit.routing output pin.wire refl;
-  unnamed = not_modelled circuit output refl;
-}
+abbrev unnamed_output : Wire
+unnamed_output = Local (pos 1) (pos 1) (codes "F")
+
+source_unnamed : SourceUnnamed g circuit (UnnamedSource pin.ref unnamed_output)
+source_unnamed = unnamed_at circuit g pin output unnamed_output (inr (inr (inr (inl refl)))) refl refl refl refl
+
+text_passes : TextPasses (on_corridor corridor side_without_u) g
+text_passes = record { lines = refl; agree = (agreeing mini_b g (has_graph mini_b) (image_of g corridor) corridor).0 refl; clean = clean_once circuit.routing refl; no_cell = refl }
 
 pub returns : goal.returns
-returns c = unnamed pin.ref output _ (least_unnamed circuit pin.ref output fed_unnamed refl) fed_unnamed refl
+returns c = record {
+  refused = source_unnamed;
+  first = refused_in_circuit (on_corridor corridor side_without_u) g (corridor_graph corridor side_without_u) (cells_without_u g) text_passes unnamed_read (UnnamedSource pin.ref unnamed_output)
+      (refused_at_sources circuit g (UnnamedSource pin.ref unnamed_output) source_unnamed);
+}
