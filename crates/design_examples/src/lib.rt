@@ -2,17 +2,20 @@
 //! body.
 #![tactic(auto)]
 
+ghost use Rattle.answers.specs.Answers.{NoRoute};
 ghost use Rattle.answers.specs.Refusals.{BadLine, BadShape, Missing, NoDevice, NotJson, UnknownSink, UnknownSource, UnknownTile, WordLength};
 ghost use Rattle.config_grammar.specs.ConfigPrint.{config_text};
 ghost use Rattle.design_checks.specs.LineChecks.{line_refusal};
 ghost use Rattle.design_examples.specs.Faulty.{arc_before_word, files_of, good_config, good_grid, inputs, no_cells, no_kinds, no_tile, one_number, one_tile, with_faulty_database, word_before_arc};
+ghost use Rattle.design_examples.specs.OneAttempt.{corridor_outcome, cut_text};
 ghost use Rattle.design_examples.specs.Texts.{toggle_side_text, toggle_text};
 ghost use Rattle.design_files.specs.Designs.{design_of};
 ghost use Rattle.fabric_laws.specs.PlainGraph.{graph_of};
 ghost use Rattle.mini.specs.MiniA.{mini_a};
 ghost use Rattle.mini.specs.Toggle.{toggle, toggle_side};
+ghost use Rattle.mini_b.specs.MiniB.{mini_b};
 ghost use Rattle.side_form.specs.SidePrint.{side_text};
-ghost use Rattle.std.specs.Prelude.{◌≡◌, Err, None, Some, codes};
+ghost use Rattle.std.specs.Prelude.{codes, Err, None, Some, [], ◌∷◌, ◌≡◌};
 
 /// The texts of the toggle and of its side file.
 pub fn texts_of_toggle()
@@ -39,4 +42,14 @@ pub fn first_faulty_line_decides()
     ensures equal { line_refusal (graph_of mini_a) one_number ≡ Some (UnknownSource 9) }
     ensures tile { line_refusal (graph_of mini_a) no_tile ≡ Some (UnknownTile 5) }
     ensures none { line_refusal (graph_of mini_a) toggle ≡ None }
+{}
+
+/// What repair of the corridor in one attempt prints and writes: a report with the blocked connection, and the file of its
+/// cut.
+pub fn corridor_in_one_attempt()
+    ensures { corridor_outcome (graph_of mini_b) ≡ record {
+      status = NoRoute;
+      text = codes "noroute\nattempt 1 blocked R1C2/F R0C4/PO\nend rounds\n";
+      written = record { name = codes "cut"; bytes = cut_text } ∷ [];
+    } }
 {}
