@@ -17,7 +17,7 @@ use Rattle.text_laws.specs.Formed.{IsFormedText}
 use Rattle.text_examples.proofs.Formed.{section_stands, section_right, are_rising, rising_right}
 use Rattle.written_laws.specs.Written.{MayBeHardened}
 use Rattle.written_laws.proofs.Written.{are_hardened}
-use Rattle.hardening_examples.specs.CrossedDesign.{crossed_design, in_one_attempt}
+use Rattle.hardening_examples.specs.CrossedDesign.{crossed_design, by_default}
 use Rattle.hardening_examples.proofs.Hardened.{crossed_sound}
 
 pub crossed_formed : IsFormedText crossed
@@ -32,8 +32,8 @@ crossed_formed = record {
   few = omega arith;
 }
 
-pub crossed_may_be_hardened : MayBeHardened crossed_design (graph_of mini_a) (toggle_cells (graph_of mini_a)) in_one_attempt
+pub crossed_may_be_hardened : MayBeHardened crossed_design (graph_of mini_a) (toggle_cells (graph_of mini_a)) by_default
 crossed_may_be_hardened = record { sound = crossed_sound; device = device_read; text = crossed_formed; small = refl; lines = refl }
 
 pub bytes_harden : AreHardened crossed_design (graph_of mini_a) (toggle_cells (graph_of mini_a)) (config_text toggle) (side_text toggle_side)
-bytes_harden = are_hardened in_one_attempt crossed_design (graph_of mini_a) (toggle_cells (graph_of mini_a)) crossed_may_be_hardened (AttemptComplete ∷ []) (with_cells (graph_of mini_a) toggle) 8 answered
+bytes_harden = are_hardened by_default crossed_design (graph_of mini_a) (toggle_cells (graph_of mini_a)) crossed_may_be_hardened (AttemptComplete ∷ []) (with_cells (graph_of mini_a) toggle) 8 answered

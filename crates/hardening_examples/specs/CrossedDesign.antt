@@ -8,6 +8,6 @@ use Rattle.design_files.specs.Designs.{Design}
 abbrev pub crossed_design : Design
 crossed_design = record { config = crossed; device = mini_a; side = toggle_side }
 
--- in one attempt, where the nets that a bad bit disturbs are ripped
-abbrev pub in_one_attempt : Hardening
-in_one_attempt = record { out = codes "out.config"; side_out = codes "out.json"; cut_out = codes "cut.txt"; rounds = 1; rip = RipUnsafe }
+-- in 32 attempts at most, where the nets that a bad bit disturbs are ripped: as where no option says otherwise
+abbrev pub by_default : Hardening
+by_default = record { out = codes "out.config"; side_out = codes "out.json"; cut_out = codes "cut.txt"; rounds = 32; rip = RipUnsafe }

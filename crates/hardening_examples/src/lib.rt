@@ -7,7 +7,7 @@ ghost use Rattle.design_answers.specs.Headline.{AreHardened, Hardens};
 ghost use Rattle.design_checks.specs.DesignChecks.{IsAccepted};
 ghost use Rattle.design_files.specs.Designs.{Design};
 ghost use Rattle.fabric_laws.specs.PlainGraph.{graph_of};
-ghost use Rattle.hardening_examples.specs.CrossedDesign.{crossed_design, in_one_attempt};
+ghost use Rattle.hardening_examples.specs.CrossedDesign.{crossed_design, by_default};
 ghost use Rattle.hardening_examples.specs.CrossedFiles.{crossed_files, crossed_inputs};
 ghost use Rattle.headline_laws.specs.Sound.{IsSoundJob};
 ghost use Rattle.mini.specs.MiniA.{mini_a};
@@ -33,7 +33,7 @@ pub fn toggle_hardens_crossed()
 /// It may be hardened, and the bytes of the toggle and its side file do harden it: they are read as a design that passes all
 /// checks and does so.
 pub fn toggle_bytes_harden_crossed()
-    ensures may { let g = graph_of mini_a in MayBeHardened crossed_design g (toggle_cells g) in_one_attempt }
+    ensures may { let g = graph_of mini_a in MayBeHardened crossed_design g (toggle_cells g) by_default }
     ensures hardened { let g = graph_of mini_a in AreHardened crossed_design g (toggle_cells g) (config_text toggle) (side_text toggle_side) }
 {}
 

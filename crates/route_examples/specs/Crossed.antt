@@ -73,8 +73,9 @@ eight_texts =
     ∷ codes "R1C3/Q R1C3/A"
     ∷ []
 
+-- the crossed toggle, of which only nets that bad bits reach are ripped, with 32 attempts at most
 abbrev pub crossed_job : Graph → Job
-crossed_job g = record { device = mini_a; design = with_cells g crossed; rounds = 1; rip = RipUnsafe }
+crossed_job g = record { device = mini_a; design = with_cells g crossed; rounds = 32; rip = RipUnsafe }
 
 abbrev pub crossed_start : Graph → State
 crossed_start g = record { layout = with_cells g rest_of_crossed; order = eight; rims = []; moved = []; sides = toggle_side ∷ [] }
