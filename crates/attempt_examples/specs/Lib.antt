@@ -1,3 +1,4 @@
 pub mod SafeToggle
 pub mod MovedToggle
 pub mod TwoTiles
+pub mod SiteOrder
