@@ -42,14 +42,15 @@ pub record Hardens (read written : Configured) : Type 0 where
   pub outputs : GivesOutputsOf (circuit_of read) (circuit_of written)
   pub masked : KeepsOutputsOf (circuit_of read) written
 
--- The bytes of a text and of a side file are read as a design of the same device. No check of a design refuses it, and it
--- hardens the one that was read.
+-- The bytes of a text and of a side file are read as a design of the same device, whose text names that device. No check of
+-- a design refuses it, and it hardens the one that was read.
 pub record AreHardened (design : Design) (g : Graph) (cells : Cells) (text side : List ℕ) : Type 0 where
   pub again : Design
   pub its_cells : Cells
   pub text_read : configuration_of text ≡ Ok again.config
   pub side_read : side_of side ≡ Ok again.side
   pub device : again.device ≡ design.device
+  pub device_named : again.config.device ≡ design.config.device
   pub cells_there : cells_of g again.device.profile (image_of g again.config) again.side ≡ Ok its_cells
   pub passes : Passes (DesignRefused again g)
   pub hardens : Hardens (configured_as design g cells) (configured_as again g its_cells)

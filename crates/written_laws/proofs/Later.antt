@@ -11,22 +11,17 @@ use Rattle.fabric.specs.GraphOf.{IsGraph}
 use Rattle.circuit.specs.Cells.{Cells}
 use Rattle.json_forms.specs.Results.{◌>>=◌}
 use Rattle.config_grammar.specs.ConfigText.{configuration_of}
-use Rattle.config_grammar.specs.ConfigPrint.{config_text}
 use Rattle.side_form.specs.Side.{side_of}
-use Rattle.side_form.specs.SidePrint.{side_text}
 use Rattle.answers.specs.Refusals.{Refusal, TooLong}
-use Rattle.commands.specs.Commands.{Inputs, Hardening}
-use Rattle.repair.specs.Layouts.{Layout}
-use Rattle.attempts.specs.Attempts.{Event, Routed, IsAnswer, Ended}
+use Rattle.commands.specs.Commands.{Inputs}
 use Rattle.design_files.specs.Names.{most_config_bytes, most_json_bytes, grid_name, database_name, types_of}
 use Rattle.design_files.specs.Parsed.{Files, or_refused, parsed, config_refusal, side_refusal, read_config, read_grid, read_profile, read_side}
 use Rattle.design_files.specs.Designs.{Design, database_in, databases_in, design_of}
 use Rattle.design_checks.specs.DesignChecks.{IsAccepted}
-use Rattle.design_answers.specs.Outcomes.{job_of}
+use Rattle.design_answers.specs.Headline.{AreHardened}
 use Rattle.hardening_laws.proofs.Reading.{FilesRead, files_read}
 use Rattle.check_laws.proofs.Accepted.{accepted_sound}
 use Rattle.written_laws.specs.Written.{IsLaterRun, AcceptsHardened}
-use Rattle.written_laws.proofs.Written.{accepted_may_be_hardened, named_hardened}
 
 -- one step of a reading after another
 then_ok : {A B F : Type 0} (r : Result A F) (f : A → Result B F) (a : A) (b : B) → r ≡ Ok a → f a ≡ Ok b → (r >>= f) ≡ Ok b
@@ -113,12 +108,9 @@ module _ (files later : Files) (inputs again : Inputs) (design : Design) (text s
       (config_short later again.config text config run.text_there run.short_text text_read) grid_stays profile_stays
       (side_short later again.side side its_side run.side_there run.short_side side_read) types_stay
 
-pub later_accepts : (files later : Files) (inputs again : Inputs) (h : Hardening) (design : Design) (g : Graph) (cells : Cells) → IsAccepted files inputs design g cells
-    → (log : List Event) (y : Layout) (n : ℕ) → IsAnswer (job_of design g cells h) (Ended log (Routed y n))
-    → IsLaterRun files later inputs again design.config.device (config_text y.config) (side_text y.side) → AcceptsHardened later again design g cells
-later_accepts files later inputs again h design g cells accepted log y n answer run =
-    let named = named_hardened h design g cells (accepted_may_be_hardened files inputs h design g cells accepted) log y n answer in
-    let a = named.0 in
+pub later_accepts : (files later : Files) (inputs again : Inputs) (design : Design) (g : Graph) (cells : Cells) (text side : List ℕ) → IsAccepted files inputs design g cells
+    → AreHardened design g cells text side → IsLaterRun files later inputs again design.config.device text side → AcceptsHardened later again design g cells
+later_accepts files later inputs again design g cells text side accepted a run =
     let read = files_read files inputs design (accepted_sound files inputs design g cells accepted).read.profile accepted.read in
     let its : Design = record { config = a.again.config; device = design.device; side = a.again.side } in
     let same : its ≡ a.again = sym (λ i. let d : Design = record { config = a.again.config; device = a.device i; side = a.again.side } in d) in
@@ -126,7 +118,7 @@ later_accepts files later inputs again h design g cells accepted log y n answer 
       again = a.again;
       its_cells = a.its_cells;
       accepted = record {
-        read = design_there files later inputs again design (config_text y.config) (side_text y.side) read run a.again.config a.again.side a.text_read a.side_read named.1 ∙ ap (λ d. Ok d) same;
+        read = design_there files later inputs again design text side read run a.again.config a.again.side a.text_read a.side_read a.device_named ∙ ap (λ d. Ok d) same;
         graph = subst (λ d. IsGraph d g) (sym a.device) accepted.graph;
         cells_there = a.cells_there;
         passes = a.passes;

@@ -176,26 +176,21 @@ module _ (h : Hardening) (design : Design) (g : Graph) (cells : Cells) (may : Ma
     same_again : (r : IsReadAgain written g (config_text y.config) (side_text y.side)) → configured y ≡ configured_as r.again g y.cells
     same_again r i = record { graph = kept.graph i; image = (ap (λ x. image_of x y.config) kept.graph ∙ sym r.image) i; cells = y.cells; side = sym r.side_stays i }
 
-    -- the bytes harden the design, and name its device
-    pub named_hardened : (a : AreHardened design g cells (config_text y.config) (side_text y.side)) × (a.again.config.device ≡ design.config.device)
-    named_hardened =
-        let r = written_is_read in (
-          record {
-            again = r.again;
-            its_cells = y.cells;
-            text_read = r.text_read;
-            side_read = r.side_read;
-            device = r.device;
-            cells_there = subst (λ (d : Device). cells_of g d.profile (image_of g r.again.config) r.again.side ≡ Ok y.cells) (sym r.device)
-                (subst (λ (k : Configured). cells_of k.graph design.device.profile k.image k.side ≡ Ok k.cells) (same_again r) kept.cells);
-            passes = r.passes;
-            hardens = subst (Hardens (configured_as design g cells)) (same_again r) (hardened_design_keeps_outputs job sound log y n answer);
-          },
-          r.device_named ∙ text_writable.device,
-        )
-
     pub are_hardened : AreHardened design g cells (config_text y.config) (side_text y.side)
-    are_hardened = named_hardened.0
+    are_hardened =
+        let r = written_is_read in
+        record {
+          again = r.again;
+          its_cells = y.cells;
+          text_read = r.text_read;
+          side_read = r.side_read;
+          device = r.device;
+          device_named = r.device_named ∙ text_writable.device;
+          cells_there = subst (λ (d : Device). cells_of g d.profile (image_of g r.again.config) r.again.side ≡ Ok y.cells) (sym r.device)
+              (subst (λ (k : Configured). cells_of k.graph design.device.profile k.image k.side ≡ Ok k.cells) (same_again r) kept.cells);
+          passes = r.passes;
+          hardens = subst (Hardens (configured_as design g cells)) (same_again r) (hardened_design_keeps_outputs job sound log y n answer);
+        }
 
 -- over the outcomes of a run
 pub outcome_hardened : (files : Files) (inputs : Inputs) (h : Hardening) (o : Outcome) → IsOutcome files (Harden inputs h) o → o.status ≡ Done → WritesHardened files inputs h o

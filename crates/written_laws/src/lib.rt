@@ -74,10 +74,9 @@ pub fn what_a_run_writes_is_hardened()
         → WritesHardened files inputs h o }
 {}
 
-/// A later run over what was written, with the files of the device as they stood, accepts it as a design that hardens the
-/// one that was read, where the text and the side file aren't too long to be read.
+/// A later run over bytes that harden an accepted design, with the files of the device as they stood, accepts them as a
+/// design that hardens it, where the text and the side file aren't too long to be read.
 pub fn what_is_written_is_accepted()
-    ensures { (files later : Files) (inputs again : Inputs) (h : Hardening) (design : Design) (g : Graph) (cells : Cells) → IsAccepted files inputs design g cells
-        → (log : List Event) (y : Layout) (n : ℕ) → IsAnswer (job_of design g cells h) (Ended log (Routed y n))
-        → IsLaterRun files later inputs again design.config.device (config_text y.config) (side_text y.side) → AcceptsHardened later again design g cells }
+    ensures { (files later : Files) (inputs again : Inputs) (design : Design) (g : Graph) (cells : Cells) (text side : List ℕ) → IsAccepted files inputs design g cells
+        → AreHardened design g cells text side → IsLaterRun files later inputs again design.config.device text side → AcceptsHardened later again design g cells }
 {}
