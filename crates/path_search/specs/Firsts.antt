@@ -66,7 +66,8 @@ pub record AtMark (g : Wiring) (marks : List ℕ) (mark : ℕ) : Type 0 where
 
 -- how far it is to the pin
 abbrev pub left_of : Wiring → List ℕ → ℕ → ℕ → ℕ
-left_of g labels pin mark = if nat_lt 0 mark then (1 + (slice_index labels pin - slice_index labels (g.source (mark - 1)))) else 0
+left_of g labels pin mark = if nat_lt 0 mark
+    then (1 + (slice_index labels pin - slice_index labels (g.source (mark - 1)))) else 0
 
 -- only marks of wires with this label changed
 abbrev pub ChangesAt : List ℕ → ℕ → List ℕ → List ℕ → Type 0
@@ -74,7 +75,8 @@ ChangesAt labels label old new = (x : ℕ) → (slice_index labels x ≡ label �
 
 -- only wires that are settled got a mark
 abbrev pub MarksOnly : Wiring → ℕ → List ℕ → List ℕ → List ℕ → Type 0
-MarksOnly g limit settled old new = (x : ℕ) → x < g.wires → slice_index new x < limit → In settled x ⊎ (slice_index old x < limit)
+MarksOnly g limit settled old new = (x : ℕ) → x < g.wires → slice_index new x < limit
+    → In settled x ⊎ (slice_index old x < limit)
 
 -- the settled wires of one label are those at the places from start on, up to end
 pub record IsLevel (labels settled : List ℕ) (label start end : ℕ) : Type 0 where
@@ -84,7 +86,9 @@ pub record IsLevel (labels settled : List ℕ) (label start end : ℕ) : Type 0 
   pub before : (k : ℕ) → k < start → slice_index labels (slice_index settled k) < label
 
 -- what a pass over the settled wires from the place start on left, from old to new
-pub record Passed (g : Wiring) (r : Rules) (limit : ℕ) (labels settled old : List ℕ) (start end : ℕ) (new : List ℕ) (changed : Bool) : Type 0 where
+pub record Passed (g : Wiring) (r : Rules) (limit : ℕ) (labels settled old : List ℕ) (start end : ℕ) (new : List ℕ)
+    (changed : Bool) : Type 0 where
   pub fell : changed ≡ true → sum new < sum old
   pub same : changed ≡ false → new ≡ old
-  pub stable : changed ≡ false → (k : ℕ) → start ≤ k → k < end → StableAt g r limit labels old (slice_index settled k)
+  pub stable : changed ≡ false → (k : ℕ) → start ≤ k → k < end
+      → StableAt g r limit labels old (slice_index settled k)

@@ -12,11 +12,13 @@ pub record IsAtRest (wires : ℕ) (front : Front) : Type 0 where
 
 -- labels so far are sums of one weight less than so many wires are settled
 abbrev pub Searches : Wiring → Rules → List ℕ → Front → Type 0
-Searches g r tree front = Search g r tree far (length front.settled.items * 4294967295) front.labels.items front.queue front.settled.items
+Searches g r tree front = Search g r tree far (length front.settled.items * 4294967295)
+    front.labels.items front.queue front.settled.items
 
 -- the wire w, which has this label, is spread from
 abbrev pub Spreads : Wiring → Rules → List ℕ → ℕ → ℕ → Front → Type 0
-Spreads g r tree w label front = Turn g r tree far ((length front.settled.items + 1) * 4294967295) w label front.labels.items front.queue front.settled.items
+Spreads g r tree w label front = Turn g r tree far ((length front.settled.items + 1) * 4294967295) w label
+    front.labels.items front.queue front.settled.items
 
 -- a wire with a label is settled or waits
 abbrev pub Keeps : ℕ → Front → Type 0

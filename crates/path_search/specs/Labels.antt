@@ -50,7 +50,8 @@ IsRising labels settled = (i j : ℕ) → i ≤ j → j < length settled
     → slice_index labels (slice_index settled i) ≤ slice_index labels (slice_index settled j)
 
 -- while the search goes on: a label is the least weight so far, a key the same where a wire waits and far elsewhere
-pub record Search (g : Wiring) (r : Rules) (tree : List ℕ) (limit bound : ℕ) (labels keys settled : List ℕ) : Type 0 where
+pub record Search (g : Wiring) (r : Rules) (tree : List ℕ) (limit bound : ℕ)
+    (labels keys settled : List ℕ) : Type 0 where
   pub labels_len : length labels ≡ g.wires
   pub keys_len : length keys ≡ g.wires
   pub labels_most : (w : ℕ) → w < g.wires → slice_index labels w ≤ limit
@@ -74,7 +75,8 @@ pub record Search (g : Wiring) (r : Rules) (tree : List ℕ) (limit bound : ℕ)
   pub once : IsOnce settled
 
 -- while the wire w, of the least key, is spread from
-pub record Turn (g : Wiring) (r : Rules) (tree : List ℕ) (limit bound w label : ℕ) (labels keys settled : List ℕ) : Type 0 where
+pub record Turn (g : Wiring) (r : Rules) (tree : List ℕ) (limit bound w label : ℕ)
+    (labels keys settled : List ℕ) : Type 0 where
   pub search : Search g r tree limit bound labels keys settled
   pub wire : w < g.wires
   pub label_is : slice_index labels w ≡ label
@@ -115,7 +117,8 @@ pub record IsSettled (g : Wiring) (limit pin : ℕ) (labels settled : List ℕ) 
   pub wires : (w : ℕ) → In settled w → w < g.wires
   pub near : (w : ℕ) → In settled w → slice_index labels w < limit
   pub rising : IsRising labels settled
-  pub all : (w : ℕ) → w < g.wires → slice_index labels w < limit → slice_index labels w ≤ slice_index labels pin → In settled w
+  pub all : (w : ℕ) → w < g.wires → slice_index labels w < limit
+      → slice_index labels w ≤ slice_index labels pin → In settled w
 
 -- what a search leaves to be cleared: a wire with a label is settled or waits
 pub record IsKept (wires limit : ℕ) (labels keys settled : List ℕ) : Type 0 where

@@ -2,7 +2,8 @@
 //!
 //! Labels are settled in the order of their weights, as Dijkstra's method does, over a tree of least keys of fixed size
 //! (`settle`, `queue`). Marks then lead to the first of the least paths (`marks`); where the pin has no label, the
-//! labelled wires are the least cut (`rims`).
+//! labelled wires are the least cut (`rims`). What a search came to is cleared again (`clear`), and nothing else is
+//! looked at, so a search costs what its surroundings cost and not what the device costs.
 #![tactic(auto)]
 
 mod clear;

@@ -12,7 +12,8 @@ ghost use Rattle.words.specs.Members.{In};
 ghost use Rattle.path_links.specs.Together.{GoesWith};
 ghost use Rattle.path_search.specs.Labels.{far, IsRising, IsTaken};
 ghost use Rattle.path_search.specs.Fronts.{IsSearched};
-ghost use Rattle.path_search.specs.Firsts.{Mark, IsSound, MarkedBy, StableAt, IsStable, Follows, TreeMark, Passed, AtMark, ChangesAt, MarksOnly, IsLevel};
+ghost use Rattle.path_search.specs.Firsts.{Mark, IsSound, MarkedBy, StableAt, IsStable, Follows, TreeMark, Passed};
+ghost use Rattle.path_search.specs.Firsts.{AtMark, ChangesAt, MarksOnly, IsLevel};
 
 use crate::front::Front;
 use crate::queue::FAR;
@@ -28,7 +29,8 @@ fn link_mark(labels: &[u64], marks: &[u64], w: WireId, x: WireId, mark: u64) -> 
     requires marks { length marks.now ≡ length labels.now }
     ensures low { result ≤ mark }
     ensures link { slice_index labels.now x ≡ slice_index labels.now w → result ≤ slice_index marks.now x }
-    ensures is { (result ≡ mark) ⊎ ((slice_index labels.now x ≡ slice_index labels.now w) × (result ≡ slice_index marks.now x)) }
+    ensures is { (result ≡ mark)
+        ⊎ ((slice_index labels.now x ≡ slice_index labels.now w) × (result ≡ slice_index marks.now x)) }
 {
     if value_at(labels, x) != value_at(labels, w) {
         return mark;
@@ -307,7 +309,8 @@ fn mark_tree<L: Links, R: PathRules>(
     requires start { (t : ℕ) → In tree.now t → slice_index labels.now t ≡ 0 }
     requires sound { IsSound (L.wiring links.now) (R.rules rules.now) far pin labels.now marks.old }
     ensures sound { IsSound (L.wiring links.now) (R.rules rules.now) far pin labels.now marks.new }
-    ensures arcs { (a : ℕ) → IsTaken (L.wiring links.now) (R.rules rules.now) a → In tree.now ((L.wiring links.now).source a)
+    ensures arcs { (a : ℕ) → IsTaken (L.wiring links.now) (R.rules rules.now) a
+        → In tree.now ((L.wiring links.now).source a)
         → MarkedBy (L.wiring links.now) (R.rules rules.now) far labels.now marks.new ((L.wiring links.now).source a) a
         (slice_index marks.new ((L.wiring links.now).source a)) }
     ensures changes { ChangesAt labels.now 0 marks.old marks.new }

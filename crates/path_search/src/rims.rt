@@ -114,7 +114,8 @@ pub(crate) fn cut_of<L: Links, R: PathRules>(
     requires tree { IsTree (L.wiring links.now) (R.rules rules.now) tree.now }
     requires searched { IsSearched (L.wiring links.now) (R.rules rules.now) tree.now pin front.now }
     requires blocked { far ≤ slice_index front.now.labels.items pin }
-    ensures { IfOk result (λ c. IsBlockedBy (roads_of (L.wiring links.now) (R.rules rules.now)) (In tree.now) c.inside c.rim pin) }
+    ensures { IfOk result (λ c. IsBlockedBy (roads_of (L.wiring links.now) (R.rules rules.now)) (In tree.now)
+        c.inside c.rim pin) }
 {
     let rim = rim_of(alloc, links, front)?;
     let inside = copy_of(alloc, &front.settled)?;
