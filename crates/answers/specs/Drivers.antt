@@ -1,18 +1,14 @@
 -- The command `drivers`: the chosen sources of each mux of a database, where exactly some bits are set.
 -- (After Project Trellis; the report is our own.)
-use Rattle.std.specs.Prelude.{ℕ, ◌*◌, List, [], ◌∷◌, ◌++◌, map, length, Option, Some, None, Result, Ok, Err, nat_lt, codes, if◌then◌else◌}
+use Rattle.std.specs.Prelude.{ℕ, List, [], ◌∷◌, ◌++◌, map, length, Option, Some, None, Result, Ok, Err, nat_lt, codes, if◌then◌else◌}
 use Rattle.std.specs.List.{flat_map}
 use Rattle.patterns.specs.Bits.{DeviceBit, bits_of_list}
-use Rattle.records.specs.Limits.{limit_name}
+use Rattle.texts.specs.Printing.{spaced, line_feed}
+use Rattle.records.specs.Limits.{limit_name, most_database_bytes}
 use Rattle.records.specs.Database.{Mux, TileDb}
 use Rattle.grammars.specs.BitsDb as db
 use Rattle.fabric.specs.Chosen.{chosen}
 use Rattle.answers.specs.Refusals.{Refusal, Missing, TooLong, BadLine, TooLarge}
-use Rattle.answers.specs.Texts.{spaced, line_feed}
-
--- the most bytes of a `bits.db`: 16 MiB
-abbrev pub most_database_bytes : ℕ
-most_database_bytes = 16 * 1024 * 1024
 
 -- a file has to be there
 abbrev pub missing_check : List ℕ → Option (List ℕ) → Option Refusal

@@ -2,9 +2,9 @@
 
 ghost use Rattle.std.specs.Prelude.{◌≡◌, List as Seq, false, map, IfOk, OnOk};
 ghost use Rattle.std.specs.BTreeMap.{values};
+ghost use Rattle.words.specs.Ordered.{in_order, in_order_once, put_in_order, put_once};
 ghost use Rattle.records.specs.Config.{TileText as TileRecord};
 ghost use Rattle.config_grammar.specs.ConfigText.{arc_key, has_tile, section_in_order as section_in_order_of};
-ghost use Rattle.config_grammar.specs.Ordered.{in_order, in_order_once, put_in_order, put_once};
 ghost use Rattle.config_text.specs.Entries.{arcs_at, AreSinks, tile_entries};
 ghost use Rattle.config_text.specs.Known.{NoTileTwice};
 

@@ -1,4 +1,3 @@
-pub mod Twice
 pub mod SideRead
 pub mod ProfileRead
 pub mod Readers

@@ -24,10 +24,9 @@ use Rattle.cells_laws.proofs.Faults.{cells_accepted}
 use Rattle.json_forms.specs.KindRules.{slice_name, pad_name}
 use Rattle.fabric.specs.GraphOf.{IsGraph}
 use Rattle.std.proofs.lemmas.Slice.Eq.{bytes_eq-Decides}
+use Rattle.words.specs.Twice.{HasNoneTwice, NoTwo}
 use Rattle.fabric_laws.proofs.Numbered.{get_in}
-use Rattle.layout_laws.specs.Named.{NoTwo}
 use Rattle.formed_laws.specs.Designs.{NoOverlap}
-use Rattle.formed_laws.specs.Twice.{HasNoneTwice}
 use Rattle.formed_laws.specs.SideRead.{site_of, placed_cells, Lists, IsPaired, IsApart}
 use Rattle.formed_laws.specs.ProfileRead.{IsFit}
 use Rattle.formed_laws.proofs.ProfileRead.{read_fit}

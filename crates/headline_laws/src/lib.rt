@@ -5,7 +5,7 @@
 ghost use Rattle.attempts.specs.Attempts.{after_step, Attempt, Ended, Event, IsAnswer, Routed};
 ghost use Rattle.attempts.specs.Candidates.{IsCandidate, Step};
 ghost use Rattle.attempts.specs.Jobs.{Job, read_of, State};
-ghost use Rattle.attempts.specs.Starts.{IsStart};
+ghost use Rattle.attempts.specs.Starts.{IsFirstState};
 ghost use Rattle.attempts.specs.Turns.{Complete, Cut};
 ghost use Rattle.circuit.specs.Circuits.{Circuit};
 ghost use Rattle.circuit.specs.Designs.{SameDesign};
@@ -35,7 +35,7 @@ pub fn attempt_keeps()
 
 /// The start of a sound job keeps the design, where it is safe.
 pub fn start_keeps()
-    ensures { (job : Job) → IsSoundJob job → (state : State) → IsStart job state → IsSafe (configured state.layout) → StateKeeps job state }
+    ensures { (job : Job) → IsSoundJob job → (state : State) → IsFirstState job state → IsSafe (configured state.layout) → StateKeeps job state }
 {}
 
 /// A candidate step keeps the design again.

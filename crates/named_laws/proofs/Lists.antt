@@ -2,8 +2,8 @@
 use Rattle.std.proofs.Common.{◌≡◌, inl, inr, List, [], ◌∷◌, ◌++◌, map, refl, sym, ap, subst, ◌∙◌}
 use Rattle.std.proofs.lemmas.List.{map-append}
 use Rattle.words.specs.Members.{In}
+use Rattle.words.specs.Twice.{HasNoneTwice}
 use Rattle.links.proofs.Members.{in_left, in_right, in_either}
-use Rattle.formed_laws.specs.Twice.{HasNoneTwice}
 use Rattle.formed_laws.proofs.Twice.{joined_twice}
 
 -- a list with one element more, which isn't in it

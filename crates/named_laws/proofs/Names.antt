@@ -1,6 +1,7 @@
 -- Databases and devices that are read name nothing twice.
 use Rattle.std.proofs.Common.{◌≡◌, List, [], ◌∷◌, map, sym, subst, ◌∙◌}
 use Rattle.words.specs.Members.{In}
+use Rattle.words.specs.Twice.{HasNoneTwice, NoTwo}
 use Rattle.records.specs.Database.{Arc, Mux, TileDb}
 use Rattle.records.specs.Grid.{Tile}
 use Rattle.texts.specs.Lines.{lines_of}
@@ -8,8 +9,7 @@ use Rattle.fabric.specs.Device.{Device}
 use Rattle.grammars.specs.RowByRow.{nothing_read, read_lines}
 use Rattle.grammars.proofs.RowLemmas.{read_by_lines}
 use Rattle.links.proofs.Members.{in_map}
-use Rattle.layout_laws.specs.Named.{NoTwo, NamesOnce}
-use Rattle.formed_laws.specs.Twice.{HasNoneTwice}
+use Rattle.layout_laws.specs.Named.{NamesOnce}
 use Rattle.formed_laws.proofs.GridRead.{read_in_order}
 use Rattle.formed_laws.proofs.Objects.{rising_once}
 use Rattle.named_laws.specs.DatabaseRead.{IsReadDatabase, IsReadDevice, HasNamesOnce}

@@ -6,16 +6,17 @@ use Rattle.std.specs.Str.{bytes_eq}
 use Rattle.std.proofs.lemmas.Bool.{false≢true}
 use Rattle.std.proofs.lemmas.Slice.Eq.{bytes_eq-Decides}
 use Rattle.words.specs.Members.{In}
+use Rattle.words.specs.Firsts.{unless_fault}
+use Rattle.words.specs.Twice.{HasNoneTwice}
 use Rattle.patterns.specs.Bits.{PatternBit}
 use Rattle.records.specs.Database.{Arc, Mux, WordSetting, EnumOption, EnumSetting, TileDb}
 use Rattle.texts.specs.Lines.{Line}
 use Rattle.grammars.specs.Rows.{has_words}
-use Rattle.grammars.specs.BitsDb.{DbFault, BadLine, some_if, Head, MuxHead, WordHead, EnumHead, FixedHead, head_of, arc_of, bits_of, option_of, has_sink, has_source, has_word, has_enum, has_value, head_fault, last_of, entry_fault, arc_fault, option_fault, Kind, OfMux, OfWord, OfEnum, OfFixed, Reading, row_fault, begins_with_dot, words_fault, unless_fault}
+use Rattle.grammars.specs.BitsDb.{DbFault, BadLine, some_if, Head, MuxHead, WordHead, EnumHead, FixedHead, head_of, arc_of, bits_of, option_of, has_sink, has_source, has_word, has_enum, has_value, head_fault, last_of, entry_fault, arc_fault, option_fault, Kind, OfMux, OfWord, OfEnum, OfFixed, Reading, row_fault, begins_with_dot, words_fault}
 use Rattle.grammars.specs.RowByRow.{with_last, with_arc, with_bits, with_option, with_head, with_row, with_words, row_step, line_row, line_step, go_on, read_lines}
 use Rattle.grammars.proofs.Lasts.{last_pushed, with_last_pushed, Ending, NoLast, Last, ending_of}
 use Rattle.links.proofs.Members.{of_map}
 use Rattle.fabric_laws.proofs.Members.{any_to}
-use Rattle.formed_laws.specs.Twice.{HasNoneTwice}
 use Rattle.named_laws.specs.DatabaseRead.{HasNamesOnce}
 use Rattle.named_laws.proofs.Lists.{named_more, same_names, AllGood, good_more, good_front, good_last}
 

@@ -1,10 +1,10 @@
 -- Databases as their reader leaves them. (Our own.)
 use Rattle.std.specs.Prelude.{◌≡◌, ℕ, List, map, Ok}
 use Rattle.words.specs.Members.{In}
+use Rattle.words.specs.Twice.{HasNoneTwice}
 use Rattle.records.specs.Database.{Mux, EnumSetting, TileDb}
 use Rattle.fabric.specs.Device.{TypeDb, Device}
 use Rattle.grammars.specs.BitsDb.{database_of}
-use Rattle.formed_laws.specs.Twice.{HasNoneTwice}
 use Rattle.formed_laws.specs.Readers.{IsReadGrid, IsReadProfile}
 
 -- some bytes are read as this database

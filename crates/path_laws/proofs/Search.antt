@@ -10,8 +10,9 @@ use Rattle.std.specs.Cmp.Lexicographic.{slice_cmp, lists_total}
 use Rattle.words.specs.Members.{In}
 use Rattle.links.specs.Links.{Link, Reaches, here, onto}
 use Rattle.links.proofs.Members.{in_left, in_right, in_either, in_map, of_map, in_flat_map, of_flat_map, is_in, same_number}
-use Rattle.links.proofs.Below.{below, below_sound, below_complete}
+use Rattle.links.proofs.Below.{below_sound, below_complete}
 use Rattle.links.proofs.Walks.{reaches_by}
+use Rattle.links.specs.Below.{below}
 use Rattle.paths.specs.Roads.{Roads, IsBelow}
 use Rattle.paths.specs.Paths.{LeadsOn, IsPath, weight_of, IsThePath}
 use Rattle.paths.specs.Cuts.{IsLeastCut, IsInRim, IsBlockedBy}

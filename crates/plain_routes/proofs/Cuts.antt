@@ -5,11 +5,12 @@ use Rattle.std.specs.List.{list_any}
 use Rattle.words.specs.Members.{In}
 use Rattle.links.specs.Links.{Link, Drives, Below, here, onto}
 use Rattle.links.proofs.Members.{in_either, of_flat_map}
-use Rattle.links.proofs.Below.{below, below_sound, below_complete, has}
+use Rattle.links.proofs.Below.{below_sound, below_complete}
+use Rattle.links.specs.Below.{below, has}
 use Rattle.fabric.specs.Device.{Device}
 use Rattle.fabric.specs.Graph.{GraphArc}
 use Rattle.paths.specs.Cuts.{IsCut, IsInRim}
-use Rattle.path_laws.proofs.Sorted.{IsRising, increases}
+use Rattle.path_laws.proofs.Sorted.{IsRisingList, increases}
 use Rattle.upset_laws.specs.PlainUpset.{within}
 use Rattle.repair.specs.Turns.{Turn, routing}
 use Rattle.repair.specs.Usable.{IsUsable}
@@ -24,7 +25,7 @@ use Rattle.plain_routes.proofs.Usable.{usable_law}
 pub tells_within : (xs ys : List ℕ) → Tells (within xs ys) ((x : ℕ) → In xs x → In ys x)
 tells_within xs ys = tells_all (has ys) (In ys) (tells_has ys) xs
 
-pub tells_rising : (xs : List ℕ) → Tells (is_rising xs) (IsRising xs)
+pub tells_rising : (xs : List ℕ) → Tells (is_rising xs) (IsRisingList xs)
 tells_rising [] = record { from = λ h. tt; to = λ h. refl }
 tells_rising (x ∷ xs) = tells_and (tells_all (nat_lt x) (λ y. x < y) (tells_less x) xs) (tells_rising xs)
 
@@ -110,7 +111,7 @@ module _ (device : Device) (t : Turn) (p : IsToldBy device t.now) (inside rim : 
   IsRim = (w : ℕ) → In rim w ↔ IsInRim (roads_for t) inside w
 
   tells_blocked : Tells (is_blocked t inside rim pin)
-      ((((((((((w : ℕ) → In (tree_of t) w → In inside w) × (In inside pin → ⊥)) × LinksStay) × ArcsStay) × AllReached) × IsRim) × IsRising inside) × IsRising rim))
+      ((((((((((w : ℕ) → In (tree_of t) w → In inside w) × (In inside pin → ⊥)) × LinksStay) × ArcsStay) × AllReached) × IsRim) × IsRisingList inside) × IsRisingList rim))
   tells_blocked =
       tells_and (tells_and (tells_and (tells_and (tells_and (tells_and (tells_and
       (tells_within (tree_of t) inside)

@@ -4,7 +4,7 @@ use Rattle.std.specs.Prelude.{flat_map}
 use Rattle.std.proofs.lemmas.Bool.{false≢true, eqb-true}
 use Rattle.words.specs.Members.{In}
 use Rattle.links.proofs.Members.{in_map, of_map, in_flat_map, of_flat_map}
-use Rattle.links.proofs.Below.{below, has}
+use Rattle.links.specs.Below.{below, has}
 use Rattle.circuit.specs.Parts.{PartKind, Table, Register, Pad, PartRef, Source, sources}
 use Rattle.circuit.specs.Pins.{PinRef, Pin, pins}
 use Rattle.circuit.specs.Circuits.{Circuit, Connection, IsConnection}

@@ -10,7 +10,8 @@ use Rattle.std.proofs.lemmas.Bool.{false≢true}
 use Rattle.words.specs.Members.{In}
 use Rattle.links.specs.Links.{Link}
 use Rattle.links.proofs.Members.{same_number, in_left, in_right, in_either, in_map, of_map, in_flat_map, of_flat_map}
-use Rattle.links.proofs.Below.{below, below_sound, below_complete, has}
+use Rattle.links.proofs.Below.{below_sound, below_complete}
+use Rattle.links.specs.Below.{below, has}
 use Rattle.fabric.specs.Device.{Device}
 use Rattle.fabric.specs.Graph.{GraphArc}
 use Rattle.fabric.specs.GraphOf.{arc_cmp}

@@ -11,8 +11,9 @@ use Rattle.records.specs.Config.{Config}
 use Rattle.records.specs.Side.{Domain}
 use Rattle.links.specs.Links.{Routing, Drives, Below, Feeds, Fed, IsClean}
 use Rattle.links.proofs.Members.{same_number, in_map, of_map, in_flat_map, of_flat_map}
-use Rattle.links.proofs.Below.{below, below_sound, below_complete, has}
+use Rattle.links.proofs.Below.{below_sound, below_complete}
 use Rattle.links.proofs.Feeds.{one_feed}
+use Rattle.links.specs.Below.{below, has}
 use Rattle.fabric.specs.Device.{Device}
 use Rattle.fabric.specs.Wires.{Wire}
 use Rattle.fabric.specs.Graph.{GraphMux, GraphArc, Graph}
@@ -30,7 +31,7 @@ use Rattle.circuit.specs.Domains.{HasDomain}
 use Rattle.upset.specs.Configured.{Configured, circuit_of}
 use Rattle.upset.specs.Safe.{only}
 use Rattle.upset_laws.specs.PlainUpset.{OutputsListed, fed_wires, same_domain}
-use Rattle.upset_laws.specs.PlainUpset.{Fed as FedBy}
+use Rattle.upset_laws.specs.PlainUpset.{FedWires}
 use Rattle.repair.specs.Plain.{bits_of_mux, setting_bits, unknown_bits, IsPlain}
 use Rattle.repair.specs.Added.{with_arc}
 use Rattle.repair.specs.Turns.{Turn, routing}
@@ -226,10 +227,10 @@ pub record IsToldBy (device : Device) (k : Configured) : Type 0 where
   pub outputs : OutputsListed k
 
 module _ (device : Device) (k : Configured) (p : IsToldBy device k) where
-  as_fed : Source → FedBy
+  as_fed : Source → FedWires
   as_fed s = record { domain = s.domain; wires = below (routing k).links s.out }
 
-  domain_from : (f : FedBy) (w : ℕ) → In (fed_wires k) f → In f.wires w → HasDomain (circuit_of k) w f.domain
+  domain_from : (f : FedWires) (w : ℕ) → In (fed_wires k) f → In f.wires w → HasDomain (circuit_of k) w f.domain
   unfolding as_fed
   domain_from f w i h =
       let r = of_map as_fed (sources k.cells) f i in
@@ -237,7 +238,7 @@ module _ (device : Device) (k : Configured) (p : IsToldBy device k) where
       let feeds : Feeds (routing k) r.0.out w = record { output = p.outputs r.0 r.1.0; reach = below_sound (routing k).links r.0.out w there } in
       record { source = r.0; listed = r.1.0; feeds = feeds; only = λ o g. one_feed (routing k) p.clean o r.0.out w g feeds; domain = ap (λ x. x.domain) r.1.1 }
 
-  domain_to : (w : ℕ) (d : Domain) → HasDomain (circuit_of k) w d → (f : FedBy) × (In (fed_wires k) f × (In f.wires w × (f.domain ≡ d)))
+  domain_to : (w : ℕ) (d : Domain) → HasDomain (circuit_of k) w d → (f : FedWires) × (In (fed_wires k) f × (In f.wires w × (f.domain ≡ d)))
   unfolding as_fed
   domain_to w d h = (as_fed h.source, (in_map as_fed (sources k.cells) h.source h.listed, (below_complete (routing k).links h.feeds.reach, h.domain)))
 

@@ -10,10 +10,12 @@ use Rattle.std.proofs.lemmas.Bool.{false≢true}
 use Rattle.words.specs.Members.{In}
 use Rattle.patterns.specs.Bits.{DeviceBit}
 use Rattle.records.specs.Config.{ArcLine, TileText, Config}
+use Rattle.records.specs.Ripping.{Rip, RipUnsafe, RipAll}
 use Rattle.links.specs.Links.{Routing, here, onto, Feeds, Upstream}
 use Rattle.links.proofs.Members.{in_left, in_right, in_either, in_flat_map, of_flat_map}
-use Rattle.links.proofs.Below.{below, below_sound, below_complete, has}
+use Rattle.links.proofs.Below.{below_sound, below_complete}
 use Rattle.links.proofs.Feeds.{feeds_on}
+use Rattle.links.specs.Below.{below, has}
 use Rattle.fabric.specs.Device.{Device}
 use Rattle.fabric.specs.Graph.{GraphArc}
 use Rattle.fabric.specs.InOrder.{IsRising}
@@ -28,12 +30,12 @@ use Rattle.upset_laws.specs.PlainUpset.{hit_wires, short_sources, is_bad}
 use Rattle.upset_laws.proofs.PlainDomains.{hits_law, shorts_law, bad_law}
 use Rattle.repair.specs.Layouts.{configured}
 use Rattle.repair.specs.Lines.{WithoutLines, no_lines, keeps, drops, WithoutArcLines, TextsWithout, no_texts, next_text}
-use Rattle.repair.specs.Nets.{nets, clock_nets, Rip, RipUnsafe, RipAll, IsReached, IsChosenToRip, IsRipped}
+use Rattle.repair.specs.Nets.{nets, clock_nets, IsReached, IsChosenToRip, IsRipped}
 use Rattle.repair.specs.Plain.{IsPlain}
 use Rattle.repair.specs.Ripping.{IsRippedLine, IsRest}
 use Rattle.repair.specs.Turns.{routing}
 use Rattle.attempts.specs.Jobs.{Job, State, read_of, IsRippedPart}
-use Rattle.attempts.specs.Starts.{IsRippedAtStart, IsStart}
+use Rattle.attempts.specs.Starts.{IsRippedAtStart, IsFirstState}
 use Rattle.attempts.specs.Wires.{connection_cmp}
 use Rattle.plain_routes.specs.PlainParts.{same_part, connections, is_listed}
 use Rattle.plain_routes.specs.PlainUsable.{is_plain}
@@ -222,7 +224,7 @@ module _ (job : Job) (p : IsToldBy job.device (configured job.design)) where
   -- a state with the text without routes, and the ripped connections in order, is a start
   pub start_law : (state : State) → state.layout.graph ≡ job.design.graph → rest_of job.rip job.device job.design.config (configured job.design) ≡ state.layout.config
       → state.layout.cells ≡ job.design.cells → state.layout.side ≡ job.design.side → is_order state.layout.cells (ripped_connections job) state.order ≡ true
-      → state.rims ≡ [] → state.moved ≡ [] → state.sides ≡ job.design.side ∷ [] → IsStart job state
+      → state.rims ≡ [] → state.moved ≡ [] → state.sides ≡ job.design.side ∷ [] → IsFirstState job state
   start_law state graph text cells side order rims moved sides = record {
     graph = graph;
     text = subst (IsRest (IsRipped job.rip job.device (configured job.design)) job.design.config (configured job.design)) text (rest_law job.device (configured job.design) p job.rip job.design.config);

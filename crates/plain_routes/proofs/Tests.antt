@@ -8,7 +8,8 @@ use Rattle.words.specs.Members.{In}
 use Rattle.patterns.specs.Bits.{DeviceBit, same_bit, bits_of_list}
 use Rattle.records.specs.Side.{Domain, D0, D1, D2}
 use Rattle.links.specs.Links.{Link, Reaches}
-use Rattle.links.proofs.Below.{below, below_sound, below_complete, has, has_in, in_has}
+use Rattle.links.proofs.Below.{below_sound, below_complete, has_in, in_has}
+use Rattle.links.specs.Below.{below, has}
 use Rattle.fabric_laws.proofs.Members.{in_filter_from, in_filter_to, all_from, all_to, any_from, any_to}
 use Rattle.fabric_laws.proofs.SameBits.{same_is, same_refl}
 use Rattle.upset_laws.specs.PlainUpset.{same_domain}

@@ -5,7 +5,8 @@ use Rattle.words.specs.Members.{In}
 use Rattle.patterns.specs.Bits.{DeviceBit}
 use Rattle.records.specs.Side.{Domain}
 use Rattle.links.proofs.Members.{in_left, in_right, in_either, in_flat_map, of_flat_map}
-use Rattle.links.proofs.Below.{below, below_sound, below_complete, has}
+use Rattle.links.proofs.Below.{below_sound, below_complete}
+use Rattle.links.specs.Below.{below, has}
 use Rattle.fabric.specs.Device.{Device}
 use Rattle.fabric.specs.Graph.{GraphArc}
 use Rattle.fabric.specs.MuxBits.{mux_bits}

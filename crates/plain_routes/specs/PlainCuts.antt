@@ -2,7 +2,7 @@
 use Rattle.std.specs.Prelude.{ℕ, zero, suc, nat_lt, Bool, true, List, [], ◌∷◌, ◌++◌, filter, flat_map, not, length, ◌&&◌, ◌||◌, ◌==◌}
 use Rattle.std.specs.List.{list_any, list_all}
 use Rattle.links.specs.Links.{Link}
-use Rattle.links.proofs.Below.{below, has}
+use Rattle.links.specs.Below.{below, has}
 use Rattle.fabric.specs.Graph.{GraphArc}
 use Rattle.fabric.specs.Links.{links_of}
 use Rattle.upset_laws.specs.PlainUpset.{within}

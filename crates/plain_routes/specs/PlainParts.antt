@@ -1,7 +1,7 @@
 -- Parts, pins and connections told apart, and the connections of a circuit, computed as plainly as can be.
 use Rattle.std.specs.Prelude.{Bool, true, false, List, map, filter, flat_map, ◌==◌, ◌&&◌, bytes_eq}
 use Rattle.std.specs.List.{list_any}
-use Rattle.links.proofs.Below.{below, has}
+use Rattle.links.specs.Below.{below, has}
 use Rattle.circuit.specs.Parts.{PartKind, Table, Register, Pad, PartRef, sources}
 use Rattle.circuit.specs.Pins.{PinRef, pins}
 use Rattle.circuit.specs.Circuits.{Circuit, Connection}

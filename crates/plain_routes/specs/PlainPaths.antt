@@ -5,7 +5,7 @@ use Rattle.std.specs.List.{list_all}
 use Rattle.std.specs.Ordering.{is_gt}
 use Rattle.std.specs.Cmp.Lexicographic.{slice_cmp}
 use Rattle.links.specs.Links.{Link}
-use Rattle.links.proofs.Below.{below, has}
+use Rattle.links.specs.Below.{below, has}
 use Rattle.fabric.specs.Graph.{GraphArc}
 use Rattle.fabric.specs.GraphOf.{arc_cmp}
 use Rattle.fabric.specs.Links.{links_of}

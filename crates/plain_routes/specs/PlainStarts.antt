@@ -6,8 +6,9 @@ use Rattle.std.specs.Option.{option_map_or}
 use Rattle.std.specs.Ordering.{is_lt}
 use Rattle.std.specs.declared.cmp.Ordering.{Ordering}
 use Rattle.records.specs.Config.{ArcLine, TileText, Config}
+use Rattle.records.specs.Ripping.{Rip, RipUnsafe, RipAll}
 use Rattle.links.specs.Links.{Routing}
-use Rattle.links.proofs.Below.{below, has}
+use Rattle.links.specs.Below.{below, has}
 use Rattle.fabric.specs.Device.{Device}
 use Rattle.fabric.specs.Image.{tile_named, arc_of_line}
 use Rattle.fabric.specs.MuxBits.{mux_bits}
@@ -18,7 +19,7 @@ use Rattle.upset.specs.Configured.{Configured}
 use Rattle.upset.specs.Safe.{only}
 use Rattle.upset_laws.specs.PlainUpset.{hit_wires, short_sources, fed_wires, domains_of, two_domains}
 use Rattle.repair.specs.Layouts.{configured}
-use Rattle.repair.specs.Nets.{nets, clock_nets, Rip, RipUnsafe, RipAll}
+use Rattle.repair.specs.Nets.{nets, clock_nets}
 use Rattle.repair.specs.Turns.{routing}
 use Rattle.attempts.specs.Jobs.{Job, read_of}
 use Rattle.attempts.specs.Wires.{connection_cmp}

@@ -8,7 +8,7 @@ use Rattle.patterns.specs.Fits.{present, has_plain_bit}
 use Rattle.records.specs.Config.{Config}
 use Rattle.records.specs.Side.{Domain}
 use Rattle.links.specs.Links.{Link}
-use Rattle.links.proofs.Below.{below, has}
+use Rattle.links.specs.Below.{below, has}
 use Rattle.fabric.specs.Graph.{GraphArc, Graph}
 use Rattle.fabric.specs.Links.{arcs_of_mux, is_chosen, links_of}
 use Rattle.fabric.specs.MuxBits.{bits_named, mux_bits}
@@ -16,7 +16,7 @@ use Rattle.fabric_laws.specs.PlainAgree.{same_arc}
 use Rattle.circuit.specs.Pins.{pins}
 use Rattle.upset.specs.Configured.{Configured}
 use Rattle.upset.specs.Safe.{only}
-use Rattle.upset_laws.specs.PlainUpset.{hit_wires, short_sources, has_two, Fed, fed_wires, same_domain, domains_of}
+use Rattle.upset_laws.specs.PlainUpset.{hit_wires, short_sources, has_two, FedWires, fed_wires, same_domain, domains_of}
 use Rattle.repair.specs.Plain.{bits_of_mux, setting_bits, unknown_bits}
 use Rattle.repair.specs.Added.{with_arc}
 use Rattle.repair.specs.Turns.{Turn}
@@ -67,10 +67,10 @@ is_chosen_alone k a =
     is_chosen k.graph image a && list_all (λ other. not (is_chosen k.graph image other) || same_arc other a) (arcs_of_mux k.graph a.mux)
 
 -- the domain of a wire, where it has one, is this
-abbrev pub keeps_domain : List Fed → Domain → ℕ → Bool
+abbrev pub keeps_domain : List FedWires → Domain → ℕ → Bool
 keeps_domain fed d w = list_all (λ f. not (has f.wires w) || same_domain f.domain d) fed
 
-abbrev pub flips_stay_within : Configured → List Fed → Domain → GraphArc → Bool
+abbrev pub flips_stay_within : Configured → List FedWires → Domain → GraphArc → Bool
 flips_stay_within k fed d a =
     let image = with_arc k.image a in
     let own = arcs_of_mux k.graph a.mux in
@@ -78,13 +78,13 @@ flips_stay_within k fed d a =
 
 -- Rule 5 goes by the wires where a flip of another domain begins to disturb: those that it hits, and the sources of
 -- shorted ones.
-abbrev pub is_foreign : Configured → List Fed → Domain → Bits → Bool
+abbrev pub is_foreign : Configured → List FedWires → Domain → Bits → Bool
 is_foreign k fed d flips = list_any (λ e. not (same_domain e d)) (domains_of k fed flips)
 
-abbrev pub foreign_bits : Configured → List Fed → Domain → List DeviceBit
+abbrev pub foreign_bits : Configured → List FedWires → Domain → List DeviceBit
 foreign_bits k fed d = filter (λ b. is_foreign k fed d (only b)) (mux_bits k.graph)
 
-abbrev pub foreign_wires : Configured → List Fed → Domain → List ℕ
+abbrev pub foreign_wires : Configured → List FedWires → Domain → List ℕ
 foreign_wires k fed d = flat_map (λ b. hit_wires k (only b) ++ short_sources k (only b)) (foreign_bits k fed d)
 
 abbrev pub none_foreign : List Link → List ℕ → GraphArc → Bool

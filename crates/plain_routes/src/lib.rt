@@ -19,7 +19,7 @@ ghost use Rattle.plain_routes.specs.PlainStarts.{is_order, rest_of, ripped_conne
 ghost use Rattle.plain_routes.specs.PlainUsable.{usable_among};
 ghost use Rattle.records.specs.Config.{Config};
 ghost use Rattle.repair.specs.Layouts.{configured};
-ghost use Rattle.repair.specs.Nets.{IsRipped, Rip};
+ghost use Rattle.repair.specs.Nets.{IsRipped};
 ghost use Rattle.repair.specs.Ripping.{IsRest};
 ghost use Rattle.repair.specs.Routes.{IsBlocked, IsTheRoute};
 ghost use Rattle.repair.specs.Turns.{routing, Turn};
@@ -28,6 +28,7 @@ ghost use Rattle.std.specs.Prelude.{true, List, ◌↔◌, ◌≡◌, ◌≤◌,
 ghost use Rattle.upset.specs.Configured.{Configured};
 ghost use Rattle.upset_laws.specs.PlainUpset.{OutputsListed};
 ghost use Rattle.words.specs.Members.{In};
+ghost use Rattle.records.specs.Ripping.{Rip};
 
 /// The plain list of connections is exact.
 pub fn connections_are_listed()

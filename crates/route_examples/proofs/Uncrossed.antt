@@ -9,7 +9,7 @@ use Rattle.records.specs.Config.{Config}
 use Rattle.repair.specs.Layouts.{configured, turn_over}
 use Rattle.repair.specs.Routes.{IsTheRoute, IsRoute}
 use Rattle.repair.specs.Turns.{Turn, routing}
-use Rattle.attempts.specs.Starts.{IsStart}
+use Rattle.attempts.specs.Starts.{IsFirstState}
 use Rattle.upset_laws.specs.PlainUpset.{OutputsListed}
 use Rattle.mini.specs.MiniA.{mini_a}
 use Rattle.mini.specs.Toggle.{crossed}
@@ -40,7 +40,7 @@ rest = refl
 ordered : is_order (toggle_cells g) (ripped_connections (crossed_job g)) eight ≡ true
 ordered = refl
 
-pub started : IsStart (crossed_job g) (crossed_start g)
+pub started : IsFirstState (crossed_job g) (crossed_start g)
 started = start_law (crossed_job g) told (crossed_start g) refl rest refl refl ordered refl refl refl
 
 -- the first connection

@@ -4,8 +4,9 @@ use Rattle.std.specs.declared.cmp.Ordering.TheVariants.{Equal}
 use Rattle.words.specs.Members.{In}
 use Rattle.links.specs.Links.{Drives, here, onto, Below}
 use Rattle.links.proofs.Members.{in_left, in_right, in_map}
-use Rattle.links.proofs.Below.{below, below_complete}
+use Rattle.links.proofs.Below.{below_complete}
 use Rattle.links.proofs.Feeds.{feeds_on}
+use Rattle.links.specs.Below.{below}
 use Rattle.fabric.specs.Device.{Device}
 use Rattle.fabric.specs.Graph.{GraphArc}
 use Rattle.fabric.specs.GraphOf.{arc_cmp, IsGraph}

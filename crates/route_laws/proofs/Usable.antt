@@ -9,8 +9,9 @@ use Rattle.records.specs.Config.{Config}
 use Rattle.records.specs.Side.{Domain, D0, D1, D2}
 use Rattle.links.specs.Links.{Link, Routing, Drives, Below, Feeds, Fed}
 use Rattle.links.proofs.Members.{any_of, is_in, same_number, in_map, in_flat_map}
-use Rattle.links.proofs.Below.{below, below_sound, below_complete, is_below}
+use Rattle.links.proofs.Below.{below_sound, below_complete, is_below}
 use Rattle.links.proofs.Feeds.{is_output, is_fed}
+use Rattle.links.specs.Below.{below}
 use Rattle.fabric.specs.Wires.{Wire}
 use Rattle.fabric.specs.Graph.{GraphMux, GraphArc, Graph}
 use Rattle.fabric.specs.Links.{is_chosen}

@@ -4,14 +4,16 @@ use Rattle.std.specs.Prelude.{◌≡◌, ℕ, List, [], ◌∷◌, ◌++◌, Res
 use Rattle.std.specs.Str.{bytes_eq}
 use Rattle.words.specs.Members.{In}
 use Rattle.words.specs.Appended.{AppendsFront}
+use Rattle.texts.specs.Printing.{spaced, line_feed}
 use Rattle.records.specs.Grid.{Grid}
 use Rattle.records.specs.Config.{Config}
+use Rattle.records.specs.Limits.{most_config_bytes, most_json_bytes}
 use Rattle.answers.specs.Words as one
 use Rattle.answers.specs.Answers.{Status, ReadFault, WriteFault, Memory}
-use Rattle.answers.specs.Texts.{spaced, line_feed, read_fault_text}
+use Rattle.answers.specs.Texts.{read_fault_text}
 use Rattle.commands.specs.Commands as whole
 use Rattle.commands.specs.Commands.{Inputs}
-use Rattle.design_files.specs.Names.{most_config_bytes, most_json_bytes, grid_name, database_name, types_of}
+use Rattle.design_files.specs.Names.{grid_name, database_name, types_of}
 use Rattle.design_files.specs.Parsed.{Files, parsed, read_config, read_grid}
 use Rattle.design_answers.specs.Outcomes.{Outcome, Written, inputs_of}
 use Rattle.run_ends.specs.Words.{Command, OfFile, OfDesign}

@@ -8,12 +8,13 @@ use Rattle.std.proofs.lemmas.List.{length-map}
 use Rattle.std.proofs.lemmas.Slice.Eq.{bytes_eq-Decides}
 use Rattle.words.specs.Members.{In}
 use Rattle.words.specs.Firsts.{or_else, first_fault_after, first_fault}
+use Rattle.words.specs.Twice.{HasNoneTwice}
 use Rattle.texts.specs.Names.{is_name}
-use Rattle.records.specs.Limits.{Slices, Pads}
+use Rattle.records.specs.Limits.{Slices, Pads, most_slices, most_pads}
 use Rattle.records.specs.Profile.{SliceKind}
 use Rattle.records.specs.Side.{Domain, Placed, Triple, Voter, Side}
 use Rattle.json_forms.specs.Faults.{TooLarge}
-use Rattle.side_form.specs.Side.{OfForm, DuplicateName, UnknownName, Unpaired, WrongDomain, most_slices, most_pads, size_fault, same_site, cell_fault, names_of_triples, entry_fault, voter_fault, pad_triples, second_use, cell_names, first_outside, unknown_name, unpaired, same_domain, entries_of_triple, is_in_domain, first_elsewhere, wrong_domain, side_fault}
+use Rattle.side_form.specs.Side.{OfForm, DuplicateName, UnknownName, Unpaired, WrongDomain, size_fault, same_site, cell_fault, names_of_triples, entry_fault, voter_fault, pad_triples, second_use, cell_names, first_outside, unknown_name, unpaired, same_domain, entries_of_triple, is_in_domain, first_elsewhere, wrong_domain, side_fault}
 use Rattle.links.proofs.Members.{in_map, of_map}
 use Rattle.fabric.specs.Graph.{Graph}
 use Rattle.fabric_laws.proofs.Members.{any_from, is_false}
@@ -25,7 +26,6 @@ use Rattle.cells_laws.proofs.Options.{or_none, none_or}
 use Rattle.cells_laws.proofs.Sites.{site_stands}
 use Rattle.repair.specs.Layouts.{Layout, configured}
 use Rattle.attempts.specs.Jobs.{Job}
-use Rattle.formed_laws.specs.Twice.{HasNoneTwice}
 use Rattle.formed_laws.specs.SideRead.{site_of}
 use Rattle.formed_laws.proofs.Twice.{keys_apart}
 use Rattle.headline_laws.specs.Sound.{IsSoundJob}

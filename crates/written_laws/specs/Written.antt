@@ -1,12 +1,13 @@
 -- What is asked of a design whose hardened text is read again, and what a run of `harden` writes. (Our own.)
 use Rattle.std.specs.Prelude.{◌≡◌, ◌≤◌, ℕ, List, [], ◌∷◌, length, Some, None, Ok}
+use Rattle.records.specs.Limits.{most_config_bytes, most_json_bytes}
 use Rattle.fabric.specs.Graph.{Graph}
 use Rattle.fabric.specs.Image.{image_of}
 use Rattle.circuit.specs.Cells.{Cells}
 use Rattle.config_grammar.specs.ConfigText.{configuration_of}
 use Rattle.side_form.specs.Side.{side_of}
 use Rattle.commands.specs.Commands.{Inputs, Hardening}
-use Rattle.design_files.specs.Names.{most_config_bytes, most_json_bytes, grid_name, database_name}
+use Rattle.design_files.specs.Names.{grid_name, database_name}
 use Rattle.design_files.specs.Parsed.{Files}
 use Rattle.design_files.specs.Designs.{Design}
 use Rattle.design_checks.specs.GraphChecks.{graph_size_refusal}

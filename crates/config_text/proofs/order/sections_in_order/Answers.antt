@@ -1,6 +1,6 @@
 use Rattle.std.proofs.Common.{◌≡◌, ◌∙◌, List, ℕ, IfOk, ap, map, subst}
+use Rattle.words.specs.Ordered.{in_order}
 use Rattle.records.specs.Config.{TileText}
-use Rattle.config_grammar.specs.Ordered.{in_order}
 use Rattle.config_grammar.specs.ConfigText.{section_in_order}
 use Rattle.config_text.proofs.Ordered.{values_of_tiles}
 use Rattle.config_text.proofs.order.sections_in_order.Goals as goal
