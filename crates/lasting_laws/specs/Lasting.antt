@@ -1,7 +1,6 @@
 -- What a hardened design keeps of the one that was read at any moment, and what stands behind each word of it. (The aim is
 -- RoRA's; the form is our own.)
 use Rattle.std.specs.Prelude.{◌≡◌, ℕ, ◌<◌, true, Bool}
-use Rattle.words.specs.Members.{In}
 use Rattle.patterns.specs.Bits.{DeviceBit}
 use Rattle.records.specs.Side.{Domain, Triple}
 use Rattle.fabric.specs.MuxBits.{is_mux_bit}
@@ -15,6 +14,11 @@ use Rattle.circuit.specs.Triplicated.{HasOutputs}
 use Rattle.upset.specs.Configured.{Configured, circuit_of}
 use Rattle.upset.specs.Effect.{IsEffect}
 use Rattle.upset.specs.Safe.{IsMuxFault, only}
+use Rattle.commands.specs.Commands.{Inputs, Hardening}
+use Rattle.design_files.specs.Parsed.{Files}
+use Rattle.design_checks.specs.DesignChecks.{configured_as}
+use Rattle.design_answers.specs.Outcomes.{Outcome}
+use Rattle.written_laws.specs.Written.{WritesHardened}
 use Rattle.moment_laws.specs.Moments.{HoldsBitsOf, KeepsAllBefore, KeepsOutsideFromAnyCycle, KeepsTwoFromAnyCycle}
 
 -- Both circuits hold the same bits in every cycle, and the flip of any one routing-mux bit may come in any cycle: before it
@@ -38,3 +42,10 @@ pub record SaysSomething (k : Configured) : Type 0 where
   pub faults : (b : DeviceBit) → is_mux_bit k.graph b ≡ true → (f : Fault) × IsEffect k (only b) f
   pub runs : (f : Fault) (start : PartTriple → Bool) (input : ℕ → Triple → Bool) (choice : ℕ → World) (n : ℕ) → HasOneRun (circuit_of k) f start input choice n
   pub outputs : HasOutputs (circuit_of k)
+
+-- a run that writes a text and a side file: the design as which they are read hardens the one that was read at any moment, and
+-- what is said of the two isn't said of nothing
+pub record IsLasting {files : Files} {inputs : Inputs} {h : Hardening} {o : Outcome} (w : WritesHardened files inputs h o) : Type 0 where
+  pub at_any_moment : HardensAtAnyMoment (configured_as w.design w.graph w.cells) (configured_as w.hardened.again w.graph w.hardened.its_cells)
+  pub read_says : SaysSomething (configured_as w.design w.graph w.cells)
+  pub written_says : SaysSomething (configured_as w.hardened.again w.graph w.hardened.its_cells)
