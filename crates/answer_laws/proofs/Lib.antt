@@ -4,3 +4,7 @@ pub mod Ripped
 pub mod Named
 pub mod Starts
 pub mod Outcomes
+pub mod Told
+pub mod Tests
+pub mod Candidates
+pub mod Runs

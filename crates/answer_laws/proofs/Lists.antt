@@ -71,3 +71,26 @@ module _ {X : Type 0} (cmp : X → X → Ordering) (total : IsTotalOrder cmp) wh
           (λ h. record { has = h.0; least = λ y k. h.1 y (all y k) k })
           (λ l. (l.has, (λ y i k. l.least y k)))
           (both (test x) (all_in (λ y. Has y → cmp x y ≢ Greater) (λ y. if_then (test y) (after_decided (cmp x y))) xs))
+
+  -- one element of a list comes after none of it, or the list is empty
+  pub least_in : (xs : List X) → ((x : X) × IsLeast cmp (In xs) x) ⊎ ((x : X) → In xs x → ⊥)
+  least_in xs = elim (some_in (λ x. (y : X) → In xs y → cmp x y ≢ Greater) (λ x. all_in (λ y. cmp x y ≢ Greater) (λ y. after_decided (cmp x y)) xs) xs) [
+    | inl h ↦ inl (h.0, record { has = h.1.0; least = h.1.1 })
+    | inr n ↦ inr (no_least cmp total (In xs) xs (λ x i. i) (λ x l. n (x, (l.has, l.least))))
+  ]
+
+-- what is made of the elements of a list that have a property
+pub gathered : {X Y : Type 0} (P : X → Type 0) → ((x : X) → Decided (P x)) → (make : (x : X) → P x → Y) → (xs : List X)
+    → (ys : List Y) × ((x : X) → In xs x → P x → (p : P x) × In ys (make x p))
+gathered P test make [] = ([], λ x i p. absurd i)
+gathered {X} {Y} P test make (x ∷ xs) = go (test x) (gathered P test make xs)
+  where
+    go : Decided (P x) → ((ys : List Y) × ((z : X) → In xs z → P z → (p : P z) × In ys (make z p))) → (ys : List Y) × ((z : X) → In (x ∷ xs) z → P z → (p : P z) × In ys (make z p))
+    go (inl p) rest = (
+      make x p ∷ rest.0,
+      λ z i q. elim i [
+        | inl e ↦ subst (λ w. (r : P w) × In (make x p ∷ rest.0) (make w r)) e (p, inl refl)
+        | inr j ↦ (let r = rest.1 z j q in (r.0, inr r.1))
+      ],
+    )
+    go (inr n) rest = (rest.0, λ z i q. elim i [ inl e ↦ absurd (n (subst P (sym e) q)) | inr j ↦ rest.1 z j q ])
