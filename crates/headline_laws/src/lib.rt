@@ -1,25 +1,32 @@
-//! The main law, at the level of the definitions: where the attempts of a router end with all connections routed, what
-//! is written hardens what was read. There is no code but laws, each the contract of a function with an empty body.
+//! What a router writes hardens what was read, so that masking holds of it and both give the same outputs; so it is over the
+//! inputs of a run that are accepted. There is no code but laws, each the contract of a function with an empty body.
 #![tactic(auto)]
 
-ghost use Rattle.attempts.specs.Attempts.{after_step, Attempt, Ended, Event, IsAnswer, Routed};
+ghost use Rattle.attempts.specs.Attempts.{Ended, Event, IsAnswer, Routed, after_step, Attempt};
 ghost use Rattle.attempts.specs.Candidates.{IsCandidate, Step};
 ghost use Rattle.attempts.specs.Jobs.{Job, read_of, State};
 ghost use Rattle.attempts.specs.Starts.{IsFirstState};
 ghost use Rattle.attempts.specs.Turns.{Complete, Cut};
+ghost use Rattle.check_laws.specs.Accepted.{FeedsAreModelled};
 ghost use Rattle.circuit.specs.Circuits.{Circuit};
 ghost use Rattle.circuit.specs.Designs.{SameDesign};
 ghost use Rattle.circuit.specs.Triplicated.{IsTriplicated};
 ghost use Rattle.circuit.specs.WellFormed.{IsWellFormed};
 ghost use Rattle.design_answers.specs.Headline.{Hardens};
 ghost use Rattle.headline_laws.specs.Kept.{HasEachConnection, KeepsDesign, StateKeeps};
-ghost use Rattle.check_laws.specs.Accepted.{FeedsAreModelled};
 ghost use Rattle.headline_laws.specs.Sound.{IsSoundJob};
 ghost use Rattle.links.specs.Links.{IsClean};
 ghost use Rattle.repair.specs.Layouts.{configured, Layout};
 ghost use Rattle.std.specs.Prelude.{List, ℕ};
+ghost use Rattle.fabric.specs.Graph.{Graph};
+ghost use Rattle.circuit.specs.Cells.{Cells};
 ghost use Rattle.upset.specs.Configured.{circuit_of};
 ghost use Rattle.upset.specs.Safe.{IsSafe};
+ghost use Rattle.commands.specs.Commands.{Hardening, Inputs};
+ghost use Rattle.design_files.specs.Designs.{Design};
+ghost use Rattle.design_files.specs.Parsed.{Files};
+ghost use Rattle.design_checks.specs.DesignChecks.{configured_as, IsAccepted};
+ghost use Rattle.design_answers.specs.Outcomes.{job_of};
 
 /// Of two circuits of one design whose pins named cells alone feed, both are triplicated where one is.
 pub fn triplicated_goes_along()
@@ -65,4 +72,19 @@ pub fn written_circuit_is_of_the_design()
 pub fn hardened_design_keeps_outputs()
     ensures { (job : Job) → IsSoundJob job → (log : List Event) (y : Layout) (n : ℕ) → IsAnswer job (Ended log (Routed y n))
         → Hardens (configured job.design) (configured y) }
+{}
+
+/// What a router is given for an accepted design is a sound job: the design is read and passed the checks, and its device
+/// names nothing twice.
+pub fn accepted_is_a_sound_job()
+    ensures { (files : Files) (inputs : Inputs) (h : Hardening) (design : Design) (g : Graph) (cells : Cells) → IsAccepted files inputs design g cells
+        → IsSoundJob (job_of design g cells h) }
+{}
+
+/// So it is hardened where the attempts end with all connections routed: what is written gives the outputs of the design
+/// that was read, and after the flip of any one routing-mux bit two of each three outputs at least keep them.
+pub fn accepted_design_is_hardened()
+    ensures { (files : Files) (inputs : Inputs) (h : Hardening) (design : Design) (g : Graph) (cells : Cells) → IsAccepted files inputs design g cells
+        → (log : List Event) (y : Layout) (n : ℕ) → IsAnswer (job_of design g cells h) (Ended log (Routed y n))
+        → Hardens (configured_as design g cells) (configured y) }
 {}
