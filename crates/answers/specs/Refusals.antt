@@ -1,6 +1,5 @@
 -- Refusals: the checks of an input in their order, of which the first that fails decides. (Our own.)
-use Rattle.std.specs.Prelude.{ℕ, List, [], ◌∷◌, Option, None, codes}
-use Rattle.words.specs.Firsts.{or_else}
+use Rattle.std.specs.Prelude.{ℕ, List, codes}
 use Rattle.fabric.specs.Wires.{Wire}
 use Rattle.circuit.specs.Parts.{PartRef}
 use Rattle.circuit.specs.Pins.{PinRef}
@@ -156,8 +155,3 @@ refusal_name (ForeignRead pin) = codes "ForeignRead"
 refusal_name (NotMasking part address) = codes "NotMasking"
 refusal_name (CopiesDiffer part what) = codes "CopiesDiffer"
 refusal_name NoOutputs = codes "NoOutputs"
-
--- the first check that fails; a check is none where it passes
-abbrev pub first_refusal : List (Option Refusal) → Option Refusal
-first_refusal [] = None
-first_refusal (check ∷ checks) = or_else check (first_refusal checks)

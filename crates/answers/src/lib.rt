@@ -1,2 +1,2 @@
-//! What the program answers to its words and files: readings, checks, texts and endings.
+//! What the program answers: its statuses, its refusals, and the texts that it prints.
 #![tactic(auto)]

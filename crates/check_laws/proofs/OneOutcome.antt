@@ -16,7 +16,7 @@ use Rattle.attempts.specs.Starts.{IsFirstState}
 use Rattle.attempts.specs.Attempts.{Event, End, Ending, Routed, NoRoute, Answer, Standing, Ended, IsAnswer}
 use Rattle.answers.specs.Answers as status
 use Rattle.answers.specs.Refusals.{Refusal}
-use Rattle.commands.specs.Commands.{Inputs, Hardening, Command, Check, Analyse, Harden, Run}
+use Rattle.commands.specs.Commands.{Inputs, Hardening, Command, Drivers, Check, Analyse, Harden, Run}
 use Rattle.reports.specs.Reports as report
 use Rattle.design_files.specs.Parsed.{Files}
 use Rattle.design_files.specs.Designs.{Design, design_of}
@@ -160,7 +160,11 @@ module _ (files : Files) where
   one_run : (n : ℕ) (o p : Outcome) → IsOutcome files (Run n) o → o ≡ p
   one_run n _ p (refuses e h) = absurd (let wrong : ⊥ = cc in wrong)
 
+  one_drivers : (name : List ℕ) (bits : List DeviceBit) (o p : Outcome) → IsOutcome files (Drivers name bits) o → o ≡ p
+  one_drivers name bits _ p (refuses e h) = absurd (let wrong : ⊥ = cc in wrong)
+
   pub one_of : (command : Command) (o p : Outcome) → IsOutcome files command o → IsOutcome files command p → o ≡ p
+  one_of (Drivers name bits) o p h k = one_drivers name bits o p h
   one_of (Check inputs) o p h k = one_check inputs o p h k
   one_of (Analyse inputs) o p h k = one_analyse inputs o p h k
   one_of (Harden inputs w) o p h k = one_harden inputs w o p h k

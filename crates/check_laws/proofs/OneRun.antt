@@ -1,5 +1,5 @@
 -- A run of a number of blocks has one outcome at most, and so has each command.
-use Rattle.std.proofs.Common.{◌≡◌, ℕ, List, ap, subst}
+use Rattle.std.proofs.Common.{◌≡◌, ℕ, List, ap, subst, sym, ◌∙◌}
 use Rattle.std.specs.Prelude.{Ok}
 use Rattle.patterns.specs.Bits.{DeviceBit}
 use Rattle.fabric.specs.Graph.{Graph}
@@ -10,7 +10,7 @@ use Rattle.repair.specs.Layouts.{Layout}
 use Rattle.attempts.specs.Turns.{Cut}
 use Rattle.attempts.specs.Attempts.{Event, End, Routed, NoRoute, Answer, Standing, Ended, IsAnswer}
 use Rattle.answers.specs.Answers as status
-use Rattle.commands.specs.Commands.{Command, Check, Analyse, Harden, Run}
+use Rattle.commands.specs.Commands.{Command, Drivers, Check, Analyse, Harden, Run}
 use Rattle.reports.specs.Reports as report
 use Rattle.design_files.specs.Parsed.{Files}
 use Rattle.design_files.specs.Designs.{Design}
@@ -109,6 +109,7 @@ one_run blocks _ _ (stands {g} {cells} {bits} a u) (stands {g = h} {cells = x} {
     one_standing blocks (made_design blocks) bits others (one_bits (made_design blocks) g h cells x bits others a b)
 
 pub one_of_command : (files : Files) (command : Command) (o p : Outcome) → IsCommandOutcome files command o → IsCommandOutcome files command p → o ≡ p
+one_of_command files (Drivers name bits) o p h k = h ∙ sym k
 one_of_command files (Check inputs) o p h k = one_of files (Check inputs) o p h k
 one_of_command files (Analyse inputs) o p h k = one_of files (Analyse inputs) o p h k
 one_of_command files (Harden inputs w) o p h k = one_of files (Harden inputs w) o p h k

@@ -1,8 +1,9 @@
--- The commands over a whole design, with what their words say. (Our own.)
+-- The commands of the program, with what their words say. (Our own.)
 use Rattle.std.specs.Prelude.{ℕ, List}
+use Rattle.patterns.specs.Bits.{DeviceBit}
 use Rattle.records.specs.Ripping.{Rip}
 
--- where the inputs stand: the family's folder, the profile, the side file and the configuration
+-- where the inputs of a design stand: the family's folder, the profile, the side file and the configuration
 pub record Inputs : Type 0 where
   pub family : List ℕ
   pub profile : List ℕ
@@ -18,6 +19,8 @@ pub record Hardening : Type 0 where
   pub rip : Rip
 
 pub data Command : Type 0 where
+  -- the name of a database file, and the bits that are set
+  Drivers : List ℕ → List DeviceBit → Command
   Check : Inputs → Command
   Analyse : Inputs → Command
   Harden : Inputs → Hardening → Command

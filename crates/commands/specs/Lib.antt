@@ -1,4 +1,5 @@
 pub mod Commands
 pub mod Options
+pub mod BitWords
 pub mod Readings
 pub mod Examples

@@ -1,13 +1,17 @@
--- The words of the commands over a whole design: a command, or the number of the first word that can't stand
--- where it stands. Where words run out or a needed option is missing, it is the number of words plus one. (Our own.)
-use Rattle.std.specs.Prelude.{ℕ, ◌+◌, true, false, List, [], ◌∷◌, ◌++◌, length, unwrap_or, Option, Some, None, Result, Ok, Err, codes, if◌then◌else◌}
+-- The words of a command line: the command that they are read as, or the number of the first word that can't stand
+-- where it stands, counted from 1. Where words run out or a needed option is missing, it is the number of words plus
+-- one. (Our own.)
+use Rattle.std.specs.Prelude.{ℕ, ◌+◌, Bool, true, false, List, [], ◌∷◌, ◌++◌, length, unwrap_or, Option, Some, None, Result, Ok, Err, codes, if◌then◌else◌}
+use Rattle.std.specs.List.{list_any}
 use Rattle.std.specs.Option.{option_and_then}
 use Rattle.std.specs.Str.{bytes_eq}
 use Rattle.words.specs.Firsts.{first_fault}
+use Rattle.patterns.specs.Bits.{DeviceBit}
 use Rattle.texts.specs.Numbers.{decimal_of}
 use Rattle.records.specs.Limits.{most_blocks}
 use Rattle.records.specs.Ripping.{Rip, RipUnsafe, RipAll}
-use Rattle.commands.specs.Commands.{Inputs, Hardening, Command, Check, Analyse, Harden, Run}
+use Rattle.commands.specs.BitWords.{bit_words}
+use Rattle.commands.specs.Commands.{Inputs, Hardening, Command, Drivers, Check, Analyse, Harden, Run}
 use Rattle.commands.specs.Options.{Given, given_from, Kind, Text, OutName, Rounds, WhatToRip, Allowed, option_fault, lacks_one, value_given, rounds_of, number_within}
 
 abbrev pub needed : List ℕ → Kind → Allowed
@@ -78,16 +82,34 @@ abbrev pub run_words : List (List ℕ) → Result Command ℕ
 run_words [] = Err 2
 run_words (word ∷ words) = run_of (number_within 1 most_blocks (decimal_of word)) words
 
--- the words of a command that has this name
+abbrev pub drivers_with : List ℕ → Result (List DeviceBit) ℕ → Result Command ℕ
+drivers_with name (Ok bits) = Ok (Drivers name bits)
+drivers_with name (Err k) = Err k
+
+-- the words behind `drivers`: NAME BIT..
+abbrev pub drivers_words : List (List ℕ) → Result Command ℕ
+drivers_words [] = Err 2
+drivers_words (name ∷ words) = drivers_with name (bit_words 3 words)
+
+-- the words behind the name of a command
 abbrev pub command_words : List ℕ → List (List ℕ) → Result Command ℕ
 command_words name words =
-    if bytes_eq name (codes "check") then with_options (λ given. Check (inputs_of given)) (options_of input_options words)
+    if bytes_eq name (codes "drivers") then drivers_words words
+    else if bytes_eq name (codes "check") then with_options (λ given. Check (inputs_of given)) (options_of input_options words)
     else if bytes_eq name (codes "analyse") then with_options (λ given. Analyse (inputs_of given)) (options_of input_options words)
     else if bytes_eq name (codes "harden") then with_options (λ given. Harden (inputs_of given) (hardening_of given)) (options_of harden_options words)
     else if bytes_eq name (codes "run") then run_words words
     else Err 1
 
--- the command of all words
-abbrev pub design_command : List (List ℕ) → Result Command ℕ
-design_command [] = Err 1
-design_command (name ∷ words) = command_words name words
+abbrev pub is_among : List (List ℕ) → List ℕ → Bool
+is_among names name = list_any (λ known. bytes_eq name known) names
+
+-- The command of all words, of those commands that a program knows by their names: the first word is such a name, and
+-- says which command it is.
+abbrev pub reading_of : List (List ℕ) → List (List ℕ) → Result Command ℕ
+reading_of known [] = Err 1
+reading_of known (name ∷ words) = if is_among known name then command_words name words else Err 1
+
+-- the names of all commands
+abbrev pub all_commands : List (List ℕ)
+all_commands = codes "drivers" ∷ codes "check" ∷ codes "analyse" ∷ codes "harden" ∷ codes "run" ∷ []

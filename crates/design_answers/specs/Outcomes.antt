@@ -15,7 +15,7 @@ use Rattle.attempts.specs.Attempts.{Event, End, Routed, NoRoute, Standing, Ended
 use Rattle.answers.specs.Answers as status
 use Rattle.answers.specs.Refusals.{Refusal}
 use Rattle.answers.specs.Texts.{refused_text}
-use Rattle.commands.specs.Commands.{Inputs, Hardening, Command, Check, Analyse, Harden, Run}
+use Rattle.commands.specs.Commands.{Inputs, Hardening, Command, Drivers, Check, Analyse, Harden, Run}
 use Rattle.reports.specs.Reports as report
 use Rattle.reports.specs.ReportTexts.{report_text}
 use Rattle.design_files.specs.Parsed.{Files}
@@ -44,8 +44,9 @@ refused r = record { status = status.Refused; text = refused_text r; written = [
 abbrev pub file : List ℕ → List ℕ → Written
 file name bytes = record { name = name; bytes = bytes }
 
--- the inputs of a command over files
+-- the inputs of a command over a design
 abbrev pub inputs_of : Command → Option Inputs
+inputs_of (Drivers name bits) = None
 inputs_of (Check inputs) = Some inputs
 inputs_of (Analyse inputs) = Some inputs
 inputs_of (Harden inputs hardening) = Some inputs

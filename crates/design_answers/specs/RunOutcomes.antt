@@ -13,7 +13,7 @@ use Rattle.attempts.specs.Turns.{Cut}
 use Rattle.attempts.specs.Jobs.{Job}
 use Rattle.attempts.specs.Attempts.{Event, End, Routed, NoRoute, Standing, Ended, IsAnswer}
 use Rattle.answers.specs.Answers as status
-use Rattle.commands.specs.Commands.{Command, Check, Analyse, Harden, Run}
+use Rattle.commands.specs.Commands.{Command, Drivers, Check, Analyse, Harden, Run}
 use Rattle.reports.specs.Reports as report
 use Rattle.design_files.specs.Parsed.{Files}
 use Rattle.design_files.specs.Designs.{Design}
@@ -21,6 +21,7 @@ use Rattle.made_designs.specs.Made.{made_design}
 use Rattle.design_answers.specs.BadBits.{AreMuxBits}
 use Rattle.design_answers.specs.Reported.{attempt_count}
 use Rattle.design_answers.specs.Outcomes.{Outcome, printed, layout_of, IsOutcome}
+use Rattle.design_answers.specs.DriversOutcomes.{drivers_outcome}
 
 abbrev pub run_rounds : ℕ
 run_rounds = 32
@@ -63,6 +64,7 @@ pub data IsRunOutcome (blocks : ℕ) : Outcome → Type 0 where
 
 -- the outcome of any command over files
 abbrev pub IsCommandOutcome : Files → Command → Outcome → Type 0
+IsCommandOutcome files (Drivers name bits) outcome = outcome ≡ drivers_outcome files name bits
 IsCommandOutcome files (Run blocks) outcome = IsRunOutcome blocks outcome
 IsCommandOutcome files (Check inputs) outcome = IsOutcome files (Check inputs) outcome
 IsCommandOutcome files (Analyse inputs) outcome = IsOutcome files (Analyse inputs) outcome

@@ -2,6 +2,8 @@
 -- the side file, and the databases of the grid's tile types. (Our own.)
 use Rattle.std.specs.Prelude.{ℕ, List, [], ◌∷◌, Option, Some, None, Result, Ok}
 use Rattle.records.specs.Database.{TileDb}
+use Rattle.records.specs.Grid.{Grid}
+use Rattle.records.specs.Profile.{Profile}
 use Rattle.records.specs.Side.{Side}
 use Rattle.records.specs.Config.{Config}
 use Rattle.records.specs.Limits.{most_config_bytes, most_json_bytes, most_database_bytes}
@@ -33,12 +35,27 @@ databases_in files family (kind ∷ kinds) = do
   rest ← databases_in files family kinds
   Ok (record { kind = kind; db = db } ∷ rest)
 
+-- ---- what each file of the inputs is read as
+
+abbrev pub config_in : Files → Inputs → Result Config Refusal
+config_in files inputs = parsed inputs.config most_config_bytes (read_config inputs.config) (files inputs.config)
+
+-- the grid of a device
+abbrev pub grid_in : Files → Inputs → List ℕ → Result Grid Refusal
+grid_in files inputs device = parsed (grid_name inputs.family device) most_json_bytes (read_grid (grid_name inputs.family device)) (files (grid_name inputs.family device))
+
+abbrev pub profile_in : Files → Inputs → Result Profile Refusal
+profile_in files inputs = parsed inputs.profile most_json_bytes (read_profile inputs.profile) (files inputs.profile)
+
+abbrev pub side_file_in : Files → Inputs → Result Side Refusal
+side_file_in files inputs = parsed inputs.side most_json_bytes (read_side inputs.side) (files inputs.side)
+
 -- The design of the inputs, or the refusal of the first file that is missing, too long or faulty.
 unfoldable pub design_of : Files → Inputs → Result Design Refusal
 design_of files inputs = do
-  config ← parsed inputs.config most_config_bytes (read_config inputs.config) (files inputs.config)
-  grid ← parsed (grid_name inputs.family config.device) most_json_bytes (read_grid (grid_name inputs.family config.device)) (files (grid_name inputs.family config.device))
-  profile ← parsed inputs.profile most_json_bytes (read_profile inputs.profile) (files inputs.profile)
-  side ← parsed inputs.side most_json_bytes (read_side inputs.side) (files inputs.side)
+  config ← config_in files inputs
+  grid ← grid_in files inputs config.device
+  profile ← profile_in files inputs
+  side ← side_file_in files inputs
   types ← databases_in files inputs.family (types_of grid)
   Ok (record { config = config; device = record { grid = grid; types = types; profile = profile }; side = side })

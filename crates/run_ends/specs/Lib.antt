@@ -1,3 +1,4 @@
-pub mod Words
-pub mod Answers
+pub mod Counts
+pub mod Reads
 pub mod Ends
+pub mod Causes
