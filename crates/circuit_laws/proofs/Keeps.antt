@@ -12,7 +12,7 @@ use Rattle.circuit_laws.proofs.ChosenRun.{world_at, run_is}
 use Rattle.circuit_laws.proofs.OneDesign.{shown_same}
 use Rattle.circuit_laws.proofs.OutputsRight.{masked, two_right}
 
-same_back : (c e : Circuit) → SameDesign c e → SameDesign e c
+pub same_back : (c e : Circuit) → SameDesign c e → SameDesign e c
 same_back c e same = record {
   sides = record {
     slices = sym same.sides.slices;

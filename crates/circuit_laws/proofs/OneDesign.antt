@@ -180,7 +180,7 @@ module _ (c e : Circuit) (oc : Sound c) (oe : Sound e) (tc : IsTriplicated c) (t
       let h : OfRegister (register_shape q) ≡ OfRegister (register_shape r) = ap kind_shape (sym ks) ∙ (kinds_same s u js ju parts ∙ ap kind_shape ku) in
       cc
 
-  held_next : (input : Triple → Bool) (v w vn wn : World) → IsCycle c no_fault input v → IsCycle e no_fault input w
+  pub held_next : (input : Triple → Bool) (v w vn wn : World) → IsCycle c no_fault input v → IsCycle e no_fault input w
       → IsStep c no_fault v vn → IsStep e no_fault w wn → HeldInBoth v w → HeldInBoth vn wn
   held_next input v w vn wn iv iw sv sw held = λ s u q r rs ru parts ks ku.
       let shape = register_shapes s u q r rs.listed ru.listed parts ks ku in
@@ -197,7 +197,7 @@ module _ (c e : Circuit) (oc : Sound c) (oe : Sound e) (tc : IsTriplicated c) (t
     group_same : (x y : PartRef) → x ≡ y → triple_of c.side x ≡ triple_of e.side y
     group_same x y h = ap (λ z. let g : PartTriple = record { cells = z; part = x.part } in g) (triple_same c.side e.side same.sides x.cell) ∙ ap (triple_of e.side) h
 
-    held_always : (t : ℕ) → t < n → HeldInBoth (v t) (w t)
+    pub held_always : (t : ℕ) → t < n → HeldInBoth (v t) (w t)
     held_always zero lt = λ s u q r rs ru parts ks ku. rv.starts lt s q rs.listed ks rs.read ∙ (ap start (group_same s.part u.part parts) ∙ sym (rw.starts lt u r ru.listed ku ru.read))
     held_always (suc t) lt =
         let before : t < n = omega arith in

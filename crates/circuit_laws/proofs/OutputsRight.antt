@@ -77,13 +77,13 @@ module _ (c : Circuit) (ok : Sound c) (tri : IsTriplicated c) (o : Triple) (jo :
   listed : In (all_triples c.side) o
   listed = in_left _ c.side.clocks o (in_right (c.side.triples ++ c.side.inputs) c.side.outputs o jo)
 
-  first_pad : (p : PadCell) × (In (output_pads c.cells) p × ((p.name ≡ o.first) × (p.domain ≡ D0)))
+  pub first_pad : (p : PadCell) × (In (output_pads c.cells) p × ((p.name ≡ o.first) × (p.domain ≡ D0)))
   first_pad = pad_of c ok o.first D0 (tri.entries.first o listed) (ok.formed.triples.outputs o o.first jo (inl refl))
 
-  second_pad : (p : PadCell) × (In (output_pads c.cells) p × ((p.name ≡ o.second) × (p.domain ≡ D1)))
+  pub second_pad : (p : PadCell) × (In (output_pads c.cells) p × ((p.name ≡ o.second) × (p.domain ≡ D1)))
   second_pad = pad_of c ok o.second D1 (tri.entries.second o listed) (ok.formed.triples.outputs o o.second jo (inr (inl refl)))
 
-  third_pad : (p : PadCell) × (In (output_pads c.cells) p × ((p.name ≡ o.third) × (p.domain ≡ D2)))
+  pub third_pad : (p : PadCell) × (In (output_pads c.cells) p × ((p.name ≡ o.third) × (p.domain ≡ D2)))
   third_pad = pad_of c ok o.third D2 (tri.entries.third o listed) (ok.formed.triples.outputs o o.third jo (inr (inr (inl refl))))
 
   module _ (f : Fault) (start : PartTriple → Bool) (input : ℕ → Triple → Bool) (n : ℕ) (run : ℕ → World) (is : IsRun c f start input n run) (t : ℕ) (lt : t < n) (by : Circuit) where

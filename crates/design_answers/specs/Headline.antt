@@ -17,7 +17,9 @@ use Rattle.cells.specs.CellsOf.{cells_of}
 use Rattle.upset.specs.Configured.{Configured, circuit_of}
 use Rattle.upset.specs.Safe.{IsMuxFault}
 use Rattle.config_grammar.specs.ConfigText.{configuration_of}
+use Rattle.config_grammar.specs.ConfigPrint.{config_text}
 use Rattle.side_form.specs.Side.{side_of}
+use Rattle.side_form.specs.SidePrint.{side_text}
 use Rattle.design_files.specs.Designs.{Design}
 use Rattle.design_checks.specs.Checks.{Passes}
 use Rattle.design_checks.specs.DesignChecks.{configured_as, DesignRefused}
@@ -41,13 +43,15 @@ pub record Hardens (read written : Configured) : Type 0 where
   pub outputs : GivesOutputsOf (circuit_of read) (circuit_of written)
   pub masked : KeepsOutputsOf (circuit_of read) written
 
--- The bytes of a text and of a side file are read as a design of the same device, whose text names that device. No check of
--- a design refuses it, and it hardens the one that was read.
+-- The bytes of a text and of a side file are the print of a design of the same device, as which they are read, and whose text
+-- names that device. No check of a design refuses it, and it hardens the one that was read.
 pub record AreHardened (design : Design) (g : Graph) (cells : Cells) (text side : List ℕ) : Type 0 where
   pub again : Design
   pub its_cells : Cells
   pub text_read : configuration_of text ≡ Ok again.config
   pub side_read : side_of side ≡ Ok again.side
+  pub text_printed : config_text again.config ≡ text
+  pub side_printed : side_text again.side ≡ side
   pub device : again.device ≡ design.device
   pub device_named : again.config.device ≡ design.config.device
   pub cells_there : cells_of g again.device.profile (image_of g again.config) again.side ≡ Ok its_cells

@@ -46,13 +46,13 @@ module _ (job : Job) (sound : IsSoundJob job) (y : Layout) (k : KeepsDesign job 
   abbrev written : Circuit
   written = circuit_of (configured y)
 
-  read_sound : Sound (read_of job)
+  pub read_sound : Sound (read_of job)
   read_sound = record {
     clean = sound.clean;
     formed = well_formed job.device (configured job.design) (read_apart job.design.side sound.read.side) (read_fit job.device.profile sound.read.profile) sound.read.graph sound.read.outputs sound.read.cells;
   }
 
-  written_sound : Sound written
+  pub written_sound : Sound written
   written_sound = record { clean = k.ready.clean; formed = k.formed }
 
   -- the circuit is one of the design, and triplicated too

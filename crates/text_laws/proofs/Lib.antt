@@ -15,3 +15,4 @@ pub mod SameAgain
 pub mod NoFaults
 pub mod SameWrites
 pub mod SameFaults
+pub mod SamePrint

@@ -103,3 +103,9 @@ pub fn the_same_but_for_lines()
 pub fn the_same_lines_are_not_refused()
     ensures { (g : Graph) (c d : Config) → SameButLines c d → EachHasLines d → line_refusal g c ≡ None → line_refusal g d ≡ None }
 {}
+
+/// Such configurations print the same bytes. So a text that is printed is the print of each configuration that it is read as.
+pub fn the_same_but_for_lines_print_the_same()
+    ensures same { (c d : Config) → SameButLines c d → config_text d ≡ config_text c }
+    ensures printed { (c d : Config) → IsFormedText c → configuration_of (config_text c) ≡ Ok d → config_text d ≡ config_text c }
+{}

@@ -44,6 +44,7 @@ use Rattle.text_laws.proofs.NoFaults.{printed_read, printed_lines}
 use Rattle.text_laws.proofs.SidePrinted.{side_formed, side_read_back}
 use Rattle.text_laws.proofs.SameWrites.{same_image, same_agreeing}
 use Rattle.text_laws.proofs.SameFaults.{not_refused}
+use Rattle.text_laws.proofs.SamePrint.{same_print}
 use Rattle.headline_laws.proofs.Reading.{files_read}
 use Rattle.headline_laws.proofs.Accepted.{accepted_sound_job}
 use Rattle.written_laws.specs.Writable.{IsWritable}
@@ -96,6 +97,7 @@ module _ (design : Design) (g : Graph) (cells : Cells) (sound : IsSound design.d
         side_stays = refl;
         device_named = r.1.1.device;
         image = sym (same_image g design.config r.0 r.1.1);
+        printed = same_print design.config r.0 r.1.1;
         passes = sound_passes (again r.0 r.1.1) g cells (again_sound r.0 r.1.1) small
             (not_refused g design.config r.0 r.1.1 (printed_lines design.config r.0 text r.1.0) lines);
       }
@@ -142,7 +144,7 @@ module _ (h : Hardening) (design : Design) (g : Graph) (cells : Cells) (may : Ma
     pub written_text_formed : IsFormedText y.config
     written_text_formed = writable_is_formed design.device g sound.read.graph may.device design.config y.config may.text text_writable
 
-    kept : KeepsDesign job y
+    pub kept : KeepsDesign job y
     kept = (answer_keeps job sound log y n answer).0
 
     pub written_side_formed : IsFormedSide y.side
@@ -184,6 +186,8 @@ module _ (h : Hardening) (design : Design) (g : Graph) (cells : Cells) (may : Ma
           its_cells = y.cells;
           text_read = r.text_read;
           side_read = r.side_read;
+          text_printed = r.printed;
+          side_printed = ap side_text r.side_stays;
           device = r.device;
           device_named = r.device_named ∙ text_writable.device;
           cells_there = subst (λ (d : Device). cells_of g d.profile (image_of g r.again.config) r.again.side ≡ Ok y.cells) (sym r.device)

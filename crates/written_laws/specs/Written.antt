@@ -5,6 +5,7 @@ use Rattle.fabric.specs.Graph.{Graph}
 use Rattle.fabric.specs.Image.{image_of}
 use Rattle.circuit.specs.Cells.{Cells}
 use Rattle.config_grammar.specs.ConfigText.{configuration_of}
+use Rattle.config_grammar.specs.ConfigPrint.{config_text}
 use Rattle.side_form.specs.Side.{side_of}
 use Rattle.commands.specs.Commands.{Inputs, Hardening}
 use Rattle.design_files.specs.Names.{grid_name, database_name}
@@ -30,7 +31,7 @@ pub record MayBeHardened (design : Design) (g : Graph) (cells : Cells) (h : Hard
   pub lines : line_refusal g design.config ≡ None
 
 -- The bytes of a text and of a side file are read as a design of the same device, with the same side file, whose text names
--- the same device and leaves the same image. No check refuses it.
+-- the same device, leaves the same image and prints the same. No check refuses it.
 pub record IsReadAgain (design : Design) (g : Graph) (text side : List ℕ) : Type 0 where
   pub again : Design
   pub text_read : configuration_of text ≡ Ok again.config
@@ -39,6 +40,7 @@ pub record IsReadAgain (design : Design) (g : Graph) (text side : List ℕ) : Ty
   pub side_stays : again.side ≡ design.side
   pub device_named : again.config.device ≡ design.config.device
   pub image : image_of g again.config ≡ image_of g design.config
+  pub printed : config_text again.config ≡ config_text design.config
   pub passes : Passes (DesignRefused again g)
 
 -- A later run over what was written. Its family and its profile are those of the first run, and the files of the device stand

@@ -1,0 +1,4 @@
+pub mod Conditions
+pub mod Blocked
+pub mod Sites
+pub mod Moves
