@@ -13,7 +13,7 @@ use Rattle.records.specs.Grid.{Tile}
 use Rattle.records.specs.Profile.{SliceKind, Profile}
 use Rattle.records.specs.Side.{Placed, Side, D0}
 use Rattle.links.specs.Links.{Feeds, IsClean}
-use Rattle.links.proofs.Members.{in_map, in_flat_map}
+use Rattle.links.proofs.Members.{in_map, in_flat_map, is_in}
 use Rattle.fabric.specs.Agree.{ArcsAgree}
 use Rattle.fabric.specs.Graph.{Graph}
 use Rattle.fabric.specs.Image.{image_of}
@@ -38,10 +38,9 @@ use Rattle.attempts.specs.Jobs.{Job, State, read_of}
 use Rattle.attempts.specs.Moves.{Move, moved_config, moved_side}
 use Rattle.attempts.specs.Wires.{connection_cmp}
 use Rattle.attempts.specs.Candidates.{IsRemoved, BecomesRipped, Step, site_named, IsMoved, IsCandidate, WasHeld, place_of, distance, site_cmp, IsFirst, HasNone}
-use Rattle.upset_laws.proofs.Decided.{Decided, both, never, decided_by, is_true, some_in}
+use Rattle.words.proofs.Decided.{Decided, both, never, decided_by, is_true, some_in}
 use Rattle.route_laws.proofs.Same.{names}
 use Rattle.route_laws.proofs.Usable.{all_in, if_then, is_connection}
-use Rattle.links.proofs.Members.{is_in}
 use Rattle.attempt_laws.proofs.WithoutLines.{one_config}
 use Rattle.attempt_laws.proofs.Orders.{one_order}
 use Rattle.cells_laws.proofs.Sites.{site_stands}

@@ -8,3 +8,4 @@ pub mod Told
 pub mod Tests
 pub mod Candidates
 pub mod Runs
+pub mod BadPlaces

@@ -2,7 +2,7 @@
 use Rattle.std.proofs.Common.{◌≡◌, ℕ, inl, inr, List, [], ◌∷◌, refl}
 use Rattle.records.specs.Config.{ArcLine, TileText, Config}
 use Rattle.repair.specs.Lines.{with_texts, WithoutLines, no_lines, keeps, drops, TextWithout, TextsWithout, no_texts, next_text, WithoutArcLines}
-use Rattle.upset_laws.proofs.Decided.{Decided}
+use Rattle.words.proofs.Decided.{Decided}
 
 some_lines : (Dropped : ArcLine → Type 0) → ((line : ArcLine) → Decided (Dropped line)) → (lines : List ArcLine) → (rest : List ArcLine) × WithoutLines Dropped lines rest
 some_lines Dropped test [] = ([], no_lines)

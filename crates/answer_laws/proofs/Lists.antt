@@ -6,9 +6,9 @@ use Rattle.std.specs.Ordering.{ordering_reverse}
 use Rattle.std.specs.Cmp.{IsTotalOrder}
 use Rattle.words.specs.Members.{In}
 use Rattle.fabric.specs.InOrder.{IsRising}
-use Rattle.fabric_laws.specs.Insertion.{in_order}
+use Rattle.fabric_laws.specs.Insertion.{sorted_once}
 use Rattle.fabric_laws.proofs.Sorted.{sorted}
-use Rattle.upset_laws.proofs.Decided.{Decided, both, never, decided_by, some_in}
+use Rattle.words.proofs.Decided.{Decided, both, never, decided_by, some_in}
 use Rattle.route_laws.proofs.Usable.{all_in, if_then}
 use Rattle.design_checks.specs.Checks.{IsLeast}
 use Rattle.check_laws.proofs.Least.{no_least}
@@ -49,7 +49,7 @@ module _ {X : Type 0} (cmp : X → X → Ordering) (total : IsTotalOrder cmp) wh
     pub ordered : ((x y : X) → In named x → In named y → cmp x y ≡ Equal → y ≡ x) → (xs : List X) × IsOrderOf cmp Has xs
     ordered ties =
         let s = sorted cmp total named ties in
-        (in_order cmp named, record { rising = s.rising; members = λ x. ((λ i. (law x).0 ((s.members x).0 i)), (λ h. (s.members x).1 ((law x).1 h))) })
+        (sorted_once cmp named, record { rising = s.rising; members = λ x. ((λ i. (law x).0 ((s.members x).0 i)), (λ h. (s.members x).1 ((law x).1 h))) })
 
     -- otherwise there is none
     pub is_ordered : ((x y : X) → (x ≡ y) ⊎ (x ≢ y)) → Decided ((xs : List X) × IsOrderOf cmp Has xs)

@@ -21,10 +21,11 @@ use Rattle.circuit.specs.Circuits.{Circuit, Connection, IsConnection}
 use Rattle.upset.specs.Configured.{Configured}
 use Rattle.upset.specs.Effect.{IsDisturbed}
 use Rattle.upset.specs.Safe.{FlipsHave, IsBad, IsSafe, only}
-use Rattle.upset_laws.proofs.Decided.{Decided, both, either, never, decided_by, is_true, some_in, some, chosen}
+use Rattle.words.proofs.Decided.{Decided, both, either, never, decided_by, is_true, some_in, some, chosen}
 use Rattle.upset_laws.proofs.Decide.{is_disturbed, effect_list}
 use Rattle.repair.specs.Layouts.{configured}
-use Rattle.repair.specs.Nets.{nets, clock_nets, Rip, RipUnsafe, RipAll, IsReached, IsChosenToRip, IsRipped}
+use Rattle.repair.specs.Nets.{nets, clock_nets, IsReached, IsChosenToRip, IsRipped}
+use Rattle.records.specs.Ripping.{Rip, RipUnsafe, RipAll}
 use Rattle.repair.specs.Plain.{IsPlain}
 use Rattle.repair.specs.Ripping.{IsRippedLine}
 use Rattle.repair.specs.Turns.{routing}

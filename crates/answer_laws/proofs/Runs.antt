@@ -8,12 +8,12 @@ use Rattle.circuit.specs.Designs.{shape_of}
 use Rattle.circuit.specs.WellFormed.{OutputsApart}
 use Rattle.circuit.specs.Circuits.{Circuit, Connection, IsConnection}
 use Rattle.upset.specs.Safe.{IsSafe}
-use Rattle.upset_laws.proofs.Decided.{Decided}
+use Rattle.words.proofs.Decided.{Decided}
 use Rattle.repair.specs.Layouts.{Layout, configured, with_path}
 use Rattle.attempts.specs.Jobs.{Job, State, read_of}
 use Rattle.attempts.specs.Turns.{Cut, Outcome, Complete, Blocked, behind, ComesOut}
 use Rattle.attempts.specs.Candidates.{Step, IsFirst, HasNone}
-use Rattle.attempts.specs.Starts.{IsStart}
+use Rattle.attempts.specs.Starts.{IsFirstState}
 use Rattle.attempts.specs.Attempts.{Event, Moved, AttemptComplete, EndRounds, EndPad, EndSite, Ending, Routed, Attempt, blocked_event, no_route, with_first, after_step, Runs, completes, enough, comes_first, at_pad, no_site, moves, Answer, Standing, Ended, IsAnswer, standing, ended}
 use Rattle.answer_laws.specs.Named.{IsNamed, AllNamed}
 use Rattle.answer_laws.proofs.Named.{named_along}
@@ -125,7 +125,7 @@ module _ (job : Job) where
       let a = comes_out (read_of job) state.rims state.order state.layout (all_named state is) in
       more n (run_from n) state is left a.0 a.1
 
-  of_start : (state : State) → IsStart job state → IsOfRead state
+  of_start : (state : State) → IsFirstState job state → IsOfRead state
   of_start state s = record { parts = ap shape_of (sym s.cells); order = λ x i. ((s.order.members x).0 i).0 }
 
   one_left : (rounds : ℕ) → 0 < rounds → (n : ℕ) × (suc n ≡ rounds)
@@ -133,7 +133,7 @@ module _ (job : Job) where
   one_left (suc n) h = (n, refl)
 
   -- the log of a start and its end exist
-  pub start_runs : 0 < job.rounds → (state : State) → IsStart job state → SomeRun state
+  pub start_runs : 0 < job.rounds → (state : State) → IsFirstState job state → SomeRun state
   start_runs h state s =
       let n = one_left job.rounds h in
       run_from n.0 state (of_start state s) (ap (λ rims. length rims + suc n.0) s.no_rims ∙ (let e : 0 + suc n.0 ≡ suc n.0 = omega arith in e) ∙ n.1)
@@ -141,7 +141,7 @@ module _ (job : Job) where
   pub some_answer : OutputsApart (read_of job) → 0 < job.rounds → (a : Answer) × IsAnswer job a
   some_answer apart h = go (some_start job apart)
     where
-      go : ((state : State) × IsStart job state) → (a : Answer) × IsAnswer job a
+      go : ((state : State) × IsFirstState job state) → (a : Answer) × IsAnswer job a
       go s = elim (is_safe (configured s.0.layout)) [
         | inl safe ↦ (let r = start_runs h s.0 s.1 in (Ended r.0 r.1.0, ended s.0 s.1 safe r.1.1))
         | inr bad ↦ (Standing, standing s.0 s.1 bad)

@@ -9,8 +9,8 @@ use Rattle.repair.specs.Nets.{nets, IsRipped}
 use Rattle.repair.specs.Ripping.{IsRippedLine, IsRest}
 use Rattle.attempts.specs.Jobs.{Job, State, read_of, IsRippedPart}
 use Rattle.attempts.specs.Wires.{connection_cmp}
-use Rattle.attempts.specs.Starts.{IsRippedAtStart, IsStart}
-use Rattle.upset_laws.proofs.Decided.{Decided, both}
+use Rattle.attempts.specs.Starts.{IsRippedAtStart, IsFirstState}
+use Rattle.words.proofs.Decided.{Decided, both}
 use Rattle.route_laws.proofs.Usable.{is_connection}
 use Rattle.answer_laws.proofs.Lists.{IsOrderOf, ordered}
 use Rattle.answer_laws.proofs.Lines.{some_rest}
@@ -37,7 +37,7 @@ module _ (job : Job) where
     order = ordered (connection_cmp job.design.cells) (connection_total job.design.cells) (IsRippedAtStart job) ripped.0 ripped.1
         (λ x y i j. ties_are_one job.design.cells x y apart.alone (of_named_part x ((ripped.1 x).0 i).0) (of_named_part y ((ripped.1 y).0 j).0))
 
-    pub some_start : (state : State) × IsStart job state
+    pub some_start : (state : State) × IsFirstState job state
     some_start = (
       record {
         layout = record { graph = job.design.graph; config = rest.0; cells = job.design.cells; side = job.design.side };

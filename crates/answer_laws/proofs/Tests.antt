@@ -23,7 +23,7 @@ use Rattle.repair.specs.Ripping.{IsRippedLine}
 use Rattle.repair.specs.Turns.{routing}
 use Rattle.attempts.specs.Jobs.{Job, State, read_of, IsRippedBy, IsRippedPart}
 use Rattle.attempts.specs.Candidates.{IsNewWire, IsClockLine, IsRemoved, IsClockRipped, BecomesRipped}
-use Rattle.upset_laws.proofs.Decided.{Decided, both, either, never, decided_by, is_true, some_in}
+use Rattle.words.proofs.Decided.{Decided, both, either, never, decided_by, is_true, some_in}
 use Rattle.route_laws.proofs.Same.{names, arcs, parts, pin_refs}
 use Rattle.route_laws.proofs.Usable.{all_in, if_then, is_feed, is_connection, is_plain}
 use Rattle.answer_laws.proofs.Ripped.{some_of, connections, is_clock, is_ripped_line, is_ripped_by, is_ripped_part}

@@ -1,9 +1,10 @@
--- Shapes of cells can be told apart.
+-- Cells, and the names of cells with their domains, can be told apart.
 use Rattle.std.proofs.Common.{◌≡◌, ◌≢◌, ℕ, Bool, true, false, ◌⊎◌, inl, inr, List, [], ◌∷◌, refl, sym, ap, ap₂, ◌∙◌}
 use Rattle.patterns.specs.Bits.{DeviceBit}
 use Rattle.records.specs.Side.{Domain}
 use Rattle.links.proofs.Members.{same_number}
 use Rattle.circuit.specs.Cells.{TableCell, Input, InputWire, InputNotWire, InputZero, InputOne, RegisterCell, SliceCell, Role, InputPad, OutputPad, ClockPad, PadCell, Cells}
+use Rattle.circuit.specs.Triples.{Member}
 use Rattle.route_laws.proofs.Same.{Told, domains, names}
 
 -- what is made of a thing that can be told, and back
@@ -96,3 +97,6 @@ told_pad = told_by (λ p. (p.name, (p.domain, (p.role, (p.wire, p.bits))))) (λ 
 
 pub told_cells : (c d : Cells) → Told c d
 told_cells = told_by (λ c. (c.slices, c.pads)) (λ p. record { slices = p.0; pads = p.1 }) (λ c. refl) (told_pair (told_list told_slice) (told_list told_pad))
+
+pub told_member : (m n : Member) → Told m n
+told_member = told_by (λ m. (m.name, m.domain)) (λ p. record { name = p.0; domain = p.1 }) (λ m. refl) (told_pair names domains)

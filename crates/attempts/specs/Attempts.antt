@@ -80,3 +80,7 @@ pub data Answer : Type 0 where
 pub data IsAnswer (job : Job) : Answer → Type 0 where
   standing : (state : State) → IsFirstState job state → (IsSafe (configured state.layout) → ⊥) → IsAnswer job Standing
   ended : {log : List Event} {e : Ending} (state : State) → IsFirstState job state → IsSafe (configured state.layout) → Runs job state log e → IsAnswer job (Ended log e)
+
+-- the attempts of a job end with all connections routed, and this layout is what they leave
+abbrev pub EndsRouted : Job → Layout → Type 0
+EndsRouted job y = (log : List Event) × ((connections : ℕ) × IsAnswer job (Ended log (Routed y connections)))

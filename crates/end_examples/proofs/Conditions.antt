@@ -1,8 +1,8 @@
 -- What the laws of plain tests ask of the layouts, and where the attempts start.
 use Rattle.std.proofs.Common.{◌≡◌, true, List, [], ◌∷◌, refl}
 use Rattle.std.specs.List.{list_all}
-use Rattle.links.specs.Below.{has}
 use Rattle.links.proofs.Below.{in_has}
+use Rattle.links.specs.Below.{has}
 use Rattle.fabric_laws.proofs.Graphs.{has_graph}
 use Rattle.fabric_laws.proofs.Members.{all_from}
 use Rattle.fabric_examples.proofs.Tests.{drives_once, clean_once}
@@ -16,8 +16,8 @@ use Rattle.upset_laws.proofs.PlainDomains.{safe_law}
 use Rattle.repair.specs.Layouts.{configured}
 use Rattle.repair.specs.Turns.{routing}
 use Rattle.attempts.specs.Starts.{IsFirstState}
-use Rattle.plain_routes.proofs.Rules.{IsToldBy}
-use Rattle.plain_routes.proofs.Starts.{start_law}
+use Rattle.route_laws.proofs.Rules.{IsToldBy}
+use Rattle.route_laws.proofs.Starts.{start_law}
 use Rattle.end_examples.specs.Joined.{device, layout_at}
 use Rattle.end_examples.specs.Ends.{job_of, starts_with, pad_design, pad_rest, to_pad, full_design, full_rest, slice_design, slice_rest, moved, to_slice}
 

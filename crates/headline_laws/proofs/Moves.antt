@@ -216,7 +216,6 @@ module _ (job : Job) (sound : IsSoundJob job) (state : State) (keeps : StateKeep
   step_keeps_design = record {
     graph = graph;
     side = subst (SameSide job.design.side) (sym c.moved.side) (same_side move job.design.side state.layout.side keeps.design.side);
-    pads = keeps.design.pads ∙ ap (λ (s : Side). s.pads) (sym c.moved.side);
     apart = apart;
     parts = keeps.design.parts ∙ sym c.alike;
     cells = made;

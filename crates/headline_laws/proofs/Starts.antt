@@ -81,7 +81,6 @@ module _ (job : Job) (sound : IsSoundJob job) where
     rest_keeps safe = record {
       graph = refl;
       side = record { slices = refl; pads = refl; triples = refl; inputs = refl; outputs = refl; clocks = refl; voters = refl };
-      pads = refl;
       apart = read_apart job.design.side sound.read.side;
       parts = refl;
       cells = cells_same job.design.graph job.device.profile (configured (with_text config)).image design.image kept.words kept.enums job.design.side ∙ sound.read.cells;

@@ -18,9 +18,9 @@ use Rattle.repair.specs.Layouts.{configured}
 use Rattle.repair.specs.Turns.{Turn, routing}
 use Rattle.repair.specs.Routes.{IsTheRoute}
 use Rattle.mini_b.specs.MiniB.{mini_b}
-use Rattle.plain_routes.specs.PlainPaths.{first_paths, weight_by}
-use Rattle.plain_routes.proofs.Rules.{IsToldBy}
-use Rattle.plain_routes.proofs.Paths.{route_law}
+use Rattle.route_laws.specs.PlainPaths.{first_paths, weight_by}
+use Rattle.route_laws.proofs.Rules.{IsToldBy}
+use Rattle.route_laws.proofs.Paths.{route_law}
 use Rattle.route_examples.specs.Corridors.{with_corridor}
 
 abbrev pub g : Graph

@@ -5,9 +5,9 @@ use Rattle.attempts.specs.Starts.{IsFirstState}
 use Rattle.mini_b.specs.MiniB.{mini_b}
 use Rattle.mini_b.specs.Corridor.{corridor}
 use Rattle.mini_b.specs.CorridorCells.{corridor_cells}
-use Rattle.plain_routes.specs.PlainStarts.{rest_of, ripped_connections, is_order}
-use Rattle.plain_routes.proofs.Rules.{IsToldBy}
-use Rattle.plain_routes.proofs.Starts.{start_law}
+use Rattle.route_laws.specs.PlainStarts.{rest_of, ripped_connections, is_order}
+use Rattle.route_laws.proofs.Rules.{IsToldBy}
+use Rattle.route_laws.proofs.Starts.{start_law}
 use Rattle.route_examples.specs.Corridors.{without_arcs, fifteen}
 use Rattle.route_examples.specs.Starting.{corridor_job, corridor_start}
 use Rattle.route_examples.proofs.Conditions.{g, told_by}

@@ -14,11 +14,11 @@ use Rattle.upset_laws.specs.PlainUpset.{OutputsListed}
 use Rattle.mini.specs.MiniA.{mini_a}
 use Rattle.mini.specs.Toggle.{crossed}
 use Rattle.mini.specs.ToggleCells.{wire_at, toggle_cells}
-use Rattle.plain_routes.specs.PlainPaths.{first_paths, paths_within, weight_by}
-use Rattle.plain_routes.specs.PlainStarts.{rest_of, ripped_connections, is_order}
-use Rattle.plain_routes.proofs.Rules.{IsToldBy}
-use Rattle.plain_routes.proofs.Paths.{paths_law}
-use Rattle.plain_routes.proofs.Starts.{start_law}
+use Rattle.route_laws.specs.PlainPaths.{first_paths, paths_within, weight_by}
+use Rattle.route_laws.specs.PlainStarts.{rest_of, ripped_connections, is_order}
+use Rattle.route_laws.proofs.Rules.{IsToldBy}
+use Rattle.route_laws.proofs.Paths.{paths_law}
+use Rattle.route_laws.proofs.Starts.{start_law}
 use Rattle.route_examples.specs.Crossed.{with_cells, crossed_read, rest_of_crossed, eight, crossed_job, crossed_start, net_of_a0, up, over, after_up}
 use Rattle.route_examples.proofs.Conditions.{outputs_listed, the_way}
 

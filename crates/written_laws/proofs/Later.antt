@@ -18,9 +18,9 @@ use Rattle.design_files.specs.Parsed.{Files, or_refused, parsed, config_refusal,
 use Rattle.design_files.specs.Designs.{Design, database_in, databases_in, design_of}
 use Rattle.design_checks.specs.DesignChecks.{IsAccepted}
 use Rattle.design_answers.specs.Headline.{AreHardened}
-use Rattle.hardening_laws.proofs.Reading.{FilesRead, files_read}
 use Rattle.check_laws.proofs.Accepted.{accepted_sound}
 use Rattle.check_laws.proofs.FilesParsed.{parsed_read}
+use Rattle.headline_laws.proofs.Reading.{FilesRead, files_read}
 use Rattle.written_laws.specs.Written.{IsLaterRun, AcceptsHardened}
 
 -- a file that is there and short is read

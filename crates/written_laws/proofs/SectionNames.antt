@@ -26,7 +26,7 @@ use Rattle.formed_laws.proofs.GridRead.{read_in_order}
 use Rattle.config_grammar.specs.ConfigLines.{ArcOf, EnumOf}
 use Rattle.answers.specs.Refusals.{NoPlace, UnknownSink, UnknownSource, UnknownSetting, UnknownValue}
 use Rattle.design_checks.specs.LineChecks.{LineFault, fault_at, source_fault, arc_faults_in, arc_faults, word_length_faults, word_faults, option_faults, enum_faults}
-use Rattle.named_laws.specs.DatabaseRead.{IsReadDevice}
+use Rattle.formed_laws.specs.DatabaseRead.{IsReadDevice}
 use Rattle.text_laws.specs.SameButLines.{has_lines}
 use Rattle.text_laws.specs.Formed.{CanStand, IsFormedSection, IsFormedText}
 use Rattle.written_laws.specs.Writable.{TilePlace, SectionStands, IsWritable}

@@ -28,9 +28,9 @@ use Rattle.repair.specs.Layouts.{Layout, configured}
 use Rattle.attempts.specs.Jobs.{Job}
 use Rattle.formed_laws.specs.SideRead.{site_of}
 use Rattle.formed_laws.proofs.Twice.{keys_apart}
+use Rattle.formed_laws.specs.DatabaseRead.{IsReadDevice}
 use Rattle.headline_laws.specs.Sound.{IsSoundJob}
 use Rattle.headline_laws.specs.Kept.{KeepsDesign}
-use Rattle.named_laws.specs.DatabaseRead.{IsReadDevice}
 use Rattle.text_laws.specs.Formed.{IsFormedCell, IsFormedTriple, IsFormedVoter, IsFormedSide}
 use Rattle.written_laws.proofs.GridNames.{tiles_named}
 use Rattle.written_laws.proofs.KindNames.{kinds_named}
@@ -133,8 +133,8 @@ module _ (job : Job) (sound : IsSoundJob job) (read : IsReadDevice job.device) (
   faultless h =
       subst (λ z. side_fault z ≡ None) its_parts
       (still_faultless side y.side.slices k.side.slices
-      (subst (λ (pads : List Placed). HasNoneTwice (map (λ (p : Placed). p.name) (y.side.slices ++ pads))) (sym k.pads) k.apart.names)
-      (subst (λ (pads : List Placed). HasNoneTwice (map site_of (y.side.slices ++ pads))) (sym k.pads) k.apart.sites) h)
+      (subst (λ (pads : List Placed). HasNoneTwice (map (λ (p : Placed). p.name) (y.side.slices ++ pads))) (sym k.side.pads) k.apart.names)
+      (subst (λ (pads : List Placed). HasNoneTwice (map site_of (y.side.slices ++ pads))) (sym k.side.pads) k.apart.sites) h)
 
   abbrev member : Placed → Member
   member p = record { name = p.name; domain = p.domain }
@@ -159,7 +159,7 @@ module _ (job : Job) (sound : IsSoundJob job) (read : IsReadDevice job.device) (
   pub kept_side_is_formed : IsFormedSide side → IsFormedSide y.side
   kept_side_is_formed formed = record {
     slices = formed_slice formed;
-    pads = subst (λ ps. (p : Placed) → In ps p → IsFormedCell p) k.pads formed.pads;
+    pads = subst (λ ps. (p : Placed) → In ps p → IsFormedCell p) k.side.pads formed.pads;
     triples = subst (λ ts. (t : Triple) → In ts t → IsFormedTriple t) k.side.triples formed.triples;
     inputs = subst (λ ts. (t : Triple) → In ts t → IsFormedTriple t) k.side.inputs formed.inputs;
     outputs = subst (λ ts. (t : Triple) → In ts t → IsFormedTriple t) k.side.outputs formed.outputs;

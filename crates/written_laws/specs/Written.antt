@@ -17,8 +17,8 @@ use Rattle.design_checks.specs.Checks.{Passes}
 use Rattle.design_checks.specs.DesignChecks.{configured_as, DesignRefused, IsAccepted}
 use Rattle.design_answers.specs.Outcomes.{job_of, Outcome, file}
 use Rattle.design_answers.specs.Headline.{Hardens, AreHardened}
+use Rattle.formed_laws.specs.DatabaseRead.{IsReadDevice}
 use Rattle.headline_laws.specs.Sound.{IsSoundJob}
-use Rattle.named_laws.specs.DatabaseRead.{IsReadDevice}
 use Rattle.text_laws.specs.Formed.{IsFormedText}
 
 -- The design is a sound job. Its device is read and its text is of the form that is read, its graph is within its limits,
