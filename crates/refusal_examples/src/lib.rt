@@ -40,21 +40,24 @@ pub fn second_arc_is_refused()
 
 /// A word that doesn't mask copy 1: from all ones its pin falls, which gives address 3.
 pub fn unmasked_copy_is_refused()
-    ensures cells { let g = graph_of mini_a in cells_of g mini_a.profile (image_of g unmasked) toggle_side ≡ Ok (cells_with_word g 0x1F1F) }
+    ensures cells { let g = graph_of mini_a in cells_of g mini_a.profile (image_of g unmasked) toggle_side
+        ≡ Ok (cells_with_word g 0x1F1F) }
     ensures refused { let g = graph_of mini_a in TablesFail (circuit_with g unmasked (cells_with_word g 0x1F1F)) (NotMasking (part_in (codes "a0") (Table 0)) 3) }
     ensures first { DesignRefused (on_toggle unmasked) (graph_of mini_a) (NotMasking (part_in (codes "a0") (Table 0)) 3) }
 {}
 
 /// A word that reads a pin without a feed.
 pub fn open_pin_is_refused()
-    ensures cells { let g = graph_of mini_a in cells_of g mini_a.profile (image_of g reading_d) toggle_side ≡ Ok (cells_with_word g 0x9717) }
+    ensures cells { let g = graph_of mini_a in cells_of g mini_a.profile (image_of g reading_d) toggle_side
+        ≡ Ok (cells_with_word g 0x9717) }
     ensures refused { let g = graph_of mini_a in PinsOpen (circuit_with g reading_d (cells_with_word g 0x9717)) (OpenPin (record { part = part_in (codes "a0") (Table 0); pin = 3 })) }
     ensures first { DesignRefused (on_toggle reading_d) (graph_of mini_a) (OpenPin (record { part = part_in (codes "a0") (Table 0); pin = 3 })) }
 {}
 
 /// A register without a clock.
 pub fn missing_clock_is_refused()
-    ensures cells { let g = graph_of mini_a in cells_of g mini_a.profile (image_of g unclocked) toggle_side ≡ Ok (toggle_cells g) }
+    ensures cells { let g = graph_of mini_a in cells_of g mini_a.profile (image_of g unclocked) toggle_side
+        ≡ Ok (toggle_cells g) }
     ensures refused { let g = graph_of mini_a in RegistersUnclocked (circuit_with g unclocked (toggle_cells g)) (NotClocked (part_in (codes "a0") (Register 0))) }
     ensures first { DesignRefused (on_toggle unclocked) (graph_of mini_a) (NotClocked (part_in (codes "a0") (Register 0))) }
 {}
