@@ -3,7 +3,7 @@ use Rattle.words.specs.Ordered.{in_order}
 use Rattle.records.specs.Config.{TileText}
 use Rattle.config_grammar.specs.ConfigText.{section_in_order}
 use Rattle.config_text.proofs.Ordered.{values_of_tiles}
-use Rattle.config_text.proofs.order.sections_in_order.Goals as goal
+use Rattle.config_text.proofs.order.sections_moved.Goals as goal
 
 pub returns : goal.returns
 returns c =
