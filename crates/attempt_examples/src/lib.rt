@@ -33,7 +33,8 @@ pub fn settings_go_by_position()
 
 /// The third slice of the toggle moves to the empty tile beside it: its word goes to a section of its own there.
 pub fn slice_of_toggle_moves()
-    ensures text { at_sites (graph_of mini_a) third_moves (λ old new. moved_config old new toggle) ≡ Some moved_toggle }
+    ensures text { at_sites (graph_of mini_a) third_moves (λ old new. moved_config old new toggle)
+        ≡ Some moved_toggle }
     ensures side { moved_side third_moves toggle_side ≡ moved_toggle_side }
 {}
 

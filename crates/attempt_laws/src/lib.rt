@@ -28,15 +28,18 @@ pub fn one_outcome()
 
 /// A slice has at most one step to its first candidate, with one layout and one list of ripped connections behind it.
 pub fn one_step()
-    ensures { (job : Job) (state : State) (slice : List ℕ) (s t : Step) → IsFirst job state slice s → IsFirst job state slice t → s ≡ t }
+    ensures { (job : Job) (state : State) (slice : List ℕ) (s t : Step) → IsFirst job state slice s
+        → IsFirst job state slice t → s ≡ t }
 {}
 
 /// Where only nets are ripped that bad bits reach, a safe design is answered as it is after one attempt.
 pub fn safe_design_stays()
-    ensures { (job : Job) → job.rip ≡ RipUnsafe → IsSafe (configured job.design) → IsAnswer job (Ended (AttemptComplete ∷ []) (Routed job.design 0)) }
+    ensures { (job : Job) → job.rip ≡ RipUnsafe → IsSafe (configured job.design)
+        → IsAnswer job (Ended (AttemptComplete ∷ []) (Routed job.design 0)) }
 {}
 
 /// A job has at most one answer: its log and how it ends.
 pub fn one_answer()
-    ensures { (job : Job) → IsGraph job.device job.design.graph → (a b : Answer) → IsAnswer job a → IsAnswer job b → a ≡ b }
+    ensures { (job : Job) → IsGraph job.device job.design.graph → (a b : Answer) → IsAnswer job a
+        → IsAnswer job b → a ≡ b }
 {}

@@ -1,5 +1,5 @@
 -- The cells at sites, each setting and choice resolved by an image. (Our own.)
-use Rattle.std.specs.Prelude.{ℕ, Bool, false, List, [], ◌++◌, map, flat_map, Option, unwrap_or, if◌then◌else◌}
+use Rattle.std.specs.Prelude.{ℕ, Bool, false, List, [], ◌++◌, map, flat_map, length, Option, unwrap_or, if◌then◌else◌}
 use Rattle.std.specs.List.{list_any}
 use Rattle.std.specs.Option.{option_map_or}
 use Rattle.patterns.specs.Bits.{DeviceBit, Bits}
@@ -75,6 +75,6 @@ pad_cell g rules side p site = record {
   name = p.name;
   domain = p.domain;
   role = role_of side p.name;
-  wire = option_map_or (wire_number g rules site.tile) (pad_wire (role_of side p.name) site.kind) 0;
+  wire = option_map_or (wire_number g rules site.tile) (pad_wire (role_of side p.name) site.kind) (length g.wires);
   bits = site_bits g site site.kind.settings;
 }

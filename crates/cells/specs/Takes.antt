@@ -1,5 +1,5 @@
 -- What the choices of a kind take at a site, by the values of their settings. (Our own.)
-use Rattle.std.specs.Prelude.{ℕ, Bool, true, false, List, find, Option, option_map, option_and_then, slice_get, unwrap_or}
+use Rattle.std.specs.Prelude.{ℕ, Bool, true, false, List, find, Option, option_map, option_and_then, slice_get, length, unwrap_or}
 use Rattle.std.specs.Option.{option_map_or}
 use Rattle.std.specs.Str.{bytes_eq}
 use Rattle.patterns.specs.Bits.{Bits}
@@ -28,9 +28,9 @@ abbrev pub take_at : Graph → Bits → ℕ → Choice → Option Take
 take_at g image tile choice = option_map (λ c. c.take) (case_of g image tile choice)
 
 -- The number of the wire that a name of a kind stands for in a tile. (Each such name has one, at each site of the
--- kind in the device of the graph.)
+-- kind in the device of the graph. One that had none would get a number that is no wire's.)
 abbrev pub wire_number : Graph → Rules → Tile → List ℕ → ℕ
-wire_number g rules tile name = unwrap_or (number_in g.wires rules tile name) 0
+wire_number g rules tile name = unwrap_or (number_in g.wires rules tile name) (length g.wires)
 
 -- what a register takes; it takes nothing that only pads take
 abbrev pub input_of : (List ℕ → ℕ) → Take → Input

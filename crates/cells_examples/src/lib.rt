@@ -22,15 +22,18 @@ ghost use Rattle.std.specs.Prelude.{codes, false, filter_map, length, map, true,
 
 /// The cells of the toggle.
 pub fn cells_of_toggle()
-    ensures { let g = graph_of mini_a in cells_of g mini_a.profile (image_of g toggle) toggle_side ≡ Ok (toggle_cells g) }
+    ensures { let g = graph_of mini_a in cells_of g mini_a.profile (image_of g toggle) toggle_side
+        ≡ Ok (toggle_cells g) }
 {}
 
 /// With other numbers of its wires, the circuit of the toggle is that of the example of a circuit.
 pub fn toggle_is_the_example()
     ensures numbers { let g = graph_of mini_a in length (sorted_once nat_cmp (filter_map example_number g.wires)) ≡ length (filter_map example_number g.wires) }
     ensures links { let g = graph_of mini_a in
-        sorted_once link_cmp (map (link_with (renumbered g)) (links_of g (image_of g toggle))) ≡ sorted_once link_cmp example.routing.links }
-    ensures outputs { let g = graph_of mini_a in sorted_once nat_cmp (map (renumbered g) g.outputs) ≡ sorted_once nat_cmp example.routing.outputs }
+        sorted_once link_cmp (map (link_with (renumbered g)) (links_of g (image_of g toggle)))
+        ≡ sorted_once link_cmp example.routing.links }
+    ensures outputs { let g = graph_of mini_a in sorted_once nat_cmp (map (renumbered g) g.outputs)
+        ≡ sorted_once nat_cmp example.routing.outputs }
     ensures cells { let g = graph_of mini_a in cells_with (renumbered g) (toggle_cells g) ≡ example.cells }
     ensures side { toggle_side ≡ example.side }
 {}

@@ -1,6 +1,6 @@
 -- The names of wires of a kind have numbers at its sites.
 use Rattle.std.proofs.Common.{◌≡◌, ℕ, inl, inr, List, ◌∷◌, ◌++◌, map, flat_map, filter_map, Some, option_to_list, sym, subst}
-use Rattle.std.specs.Prelude.{slice_get, unwrap_or}
+use Rattle.std.specs.Prelude.{slice_get, unwrap_or, length}
 use Rattle.std.specs.Str.{bytes_eq}
 use Rattle.std.proofs.lemmas.Slice.Eq.{bytes_eq-Decides}
 use Rattle.words.specs.Members.{In}
@@ -34,7 +34,7 @@ module _ (device : Device) (g : Graph) (is : IsGraph device g) where
       let listed = (is.wires.members w).1 (in_flat_map (tile_wires device) device.grid.tiles tile w i here) in
       let n = position_there (same_wire w) g.wires w listed (same_wire_refl w) in
       let number = then_to (number_of g.wires) (wire_in device.profile.rules tile name) w n.0 e n.1 in
-      subst (λ o. StandsFor device g tile name (unwrap_or o 0)) (sym number) (stands device g tile name n.0 number)
+      subst (λ o. StandsFor device g tile name (unwrap_or o (length g.wires))) (sym number) (stands device g tile name n.0 number)
 
   -- a name of a kind of slice with a site in a tile is given by the tile
   abbrev kind_outputs : SliceKind → List (List ℕ)

@@ -1,1 +1,14 @@
 pub mod Passing
+pub mod Tests
+pub mod Routings
+pub mod Arcs
+pub mod Parts
+pub mod Circuits
+pub mod Masking
+pub mod BadBits
+pub mod Loops
+pub mod Copies
+pub mod Whole
+pub mod Devices
+pub mod SecondArc
+pub mod ReadCorridors

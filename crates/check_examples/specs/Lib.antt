@@ -1,1 +1,4 @@
 pub mod Toggles
+pub mod Changed
+pub mod Refused
+pub mod CorridorRefused

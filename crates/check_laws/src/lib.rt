@@ -48,12 +48,14 @@ pub fn accepted_design_is_masked()
 
 /// Inputs that are accepted have no refusal.
 pub fn never_both()
-    ensures { (files : Files) (inputs : Inputs) → Accepted files inputs → (r : Refusal) → IsFirstRefusal files inputs r → ⊥ }
+    ensures { (files : Files) (inputs : Inputs) → Accepted files inputs → (r : Refusal)
+        → IsFirstRefusal files inputs r → ⊥ }
 {}
 
 /// Inputs without a refusal are accepted.
 pub fn unrefused_is_accepted()
-    ensures { (files : Files) (inputs : Inputs) → ((r : Refusal) → IsFirstRefusal files inputs r → ⊥) → Accepted files inputs }
+    ensures { (files : Files) (inputs : Inputs) → ((r : Refusal) → IsFirstRefusal files inputs r → ⊥)
+        → Accepted files inputs }
 {}
 
 /// Inputs have one first refusal at most.
@@ -66,7 +68,8 @@ pub fn one_first_refusal()
 pub fn sound_design_passes()
     ensures { (design : Design) (g : Graph) (cells : Cells)
         → IsSound design.device design.config (configured_as design g cells)
-        → graph_size_refusal g ≡ None → line_refusal g design.config ≡ None → Passes (DesignRefused design g) }
+        → graph_size_refusal g ≡ None → line_refusal g design.config ≡ None
+        → Passes (DesignRefused design g) }
 {}
 
 /// A command has one outcome at most, one over files and one that makes its design: its status, what it prints and what

@@ -3,12 +3,13 @@
 -- of which shows the register of its copy. Slice ai stands in column i + 1 of row 1. (Our own.)
 use Rattle.std.specs.Prelude.{ℕ, zero, suc, ◌+◌, ◌*◌, Bool, false, not, List, [], ◌∷◌, ◌++◌, filter, ◌==◌, codes}
 use Rattle.links.specs.Links.{Link}
-use Rattle.records.specs.Side.{Domain, D0, D1, D2, Placed, Triple, Side}
+use Rattle.records.specs.Side.{Domain, D0, D1, D2, Triple}
 use Rattle.circuit.specs.Cells.{TableCell, InputWire, InputZero, InputOne, RegisterCell, SliceCell, OutputPad, ClockPad, PadCell, Cells}
 use Rattle.circuit.specs.Parts.{Register}
 use Rattle.circuit.specs.Triples.{PartTriple}
 use Rattle.circuit.specs.Circuits.{Circuit}
 use Rattle.circuit.specs.Faults.{Fault}
+use Rattle.mini.specs.Toggle.{triple, toggle_side}
 
 -- the wires of column n: the pins A to D and CK of the slice, its outputs F and Q, and the wires H0 to H4 beside it
 abbrev pub a : ℕ → ℕ
@@ -107,25 +108,6 @@ toggle_cells word = record {
   pads =
       clock_pad (codes "k0") D0 1 ∷ clock_pad (codes "k1") D1 2 ∷ clock_pad (codes "k2") D2 3
       ∷ output_pad (codes "o0") D0 1 ∷ output_pad (codes "o1") D1 2 ∷ output_pad (codes "o2") D2 3 ∷ [];
-}
-
-abbrev placed : List ℕ → List ℕ → List ℕ → Domain → Placed
-placed name tile kind domain = record { name = name; tile = tile; kind = kind; domain = domain }
-
-abbrev triple : List ℕ → List ℕ → List ℕ → Triple
-triple x y z = record { first = x; second = y; third = z }
-
-abbrev pub toggle_side : Side
-toggle_side = record {
-  slices = placed (codes "a0") (codes "R1C1:MLC") (codes "S0") D0 ∷ placed (codes "a1") (codes "R1C2:MLC") (codes "S0") D1 ∷ placed (codes "a2") (codes "R1C3:MLC") (codes "S0") D2 ∷ [];
-  pads =
-      placed (codes "k0") (codes "R2C1:MCK") (codes "K0") D0 ∷ placed (codes "k1") (codes "R2C2:MCK") (codes "K0") D1 ∷ placed (codes "k2") (codes "R2C3:MCK") (codes "K0") D2
-      ∷ placed (codes "o0") (codes "R0C1:MIO") (codes "P0") D0 ∷ placed (codes "o1") (codes "R0C2:MIO") (codes "P0") D1 ∷ placed (codes "o2") (codes "R0C3:MIO") (codes "P0") D2 ∷ [];
-  triples = triple (codes "a0") (codes "a1") (codes "a2") ∷ [];
-  inputs = [];
-  outputs = triple (codes "o0") (codes "o1") (codes "o2") ∷ [];
-  clocks = triple (codes "k0") (codes "k1") (codes "k2") ∷ [];
-  voters = record { slice = codes "a0"; table = 0 } ∷ record { slice = codes "a1"; table = 0 } ∷ record { slice = codes "a2"; table = 0 } ∷ [];
 }
 
 -- the toggle where the table of a0 has another word

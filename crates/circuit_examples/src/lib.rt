@@ -31,7 +31,8 @@ pub fn toggle_is_triplicated()
 pub fn toggle_toggles()
     ensures { (start : PartTriple → Bool) (input : ℕ → Triple → Bool) (n : ℕ) (run : ℕ → World)
         → IsRun toggle no_fault start input n run → (t : ℕ) → t < n
-        → (name : List ℕ) → IsEntry toggle_pads name → (run t).shown name ≡ Bit (turned t (start toggle_registers)) }
+        → (name : List ℕ) → IsEntry toggle_pads name
+        → (run t).shown name ≡ Bit (turned t (start toggle_registers)) }
 {}
 
 /// Under a fault of copy 0 the pads of copies 1 and 2 still do.

@@ -31,7 +31,8 @@ pub fn one_domain()
 /// Masking: where the domains of a fault are at most one, there is one domain such that in every faulty run
 /// and every cycle each output pad outside it is right.
 pub fn masking()
-    ensures { (c : Circuit) → IsSoundCircuit c → (f : Fault) → WithinOneDomain c f → (d : Domain) × RightOutside c f d }
+    ensures { (c : Circuit) → IsSoundCircuit c → (f : Fault) → WithinOneDomain c f
+        → (d : Domain) × RightOutside c f d }
 {}
 
 /// So at least two of the three pads of each output triple are right.
@@ -51,7 +52,8 @@ pub fn outputs_agree()
 pub fn registers_agree()
     ensures { (c : Circuit) → IsSoundCircuit c → (course : Course) (run : ℕ → World)
         → IsRunOf c no_fault course run → (t : ℕ) → t < course.cycles
-        → (s u : Source) (q r : RegisterCell) → ReadPart c s → ReadPart c u → s.kind ≡ OfRegister q → u.kind ≡ OfRegister r
+        → (s u : Source) (q r : RegisterCell) → ReadPart c s → ReadPart c u → s.kind ≡ OfRegister q
+        → u.kind ≡ OfRegister r
         → triple_of c.side s.part ≡ triple_of c.side u.part → (run t).part s.part ≡ (run t).part u.part }
 {}
 
@@ -60,7 +62,8 @@ pub fn registers_agree()
 pub fn run_starts_anew()
     ensures { (c : Circuit) → IsSoundCircuit c → (course : Course) (run : ℕ → World)
         → IsRunOf c no_fault course run → (t : ℕ) → t < course.cycles
-        → (now : PartTriple → Bool) × IsRun c no_fault now (λ i. course.input (t + i)) (course.cycles - t) (λ i. run (t + i)) }
+        → (now : PartTriple → Bool)
+        × IsRun c no_fault now (λ i. course.input (t + i)) (course.cycles - t) (λ i. run (t + i)) }
 {}
 
 /// Where no table reaches itself, each choice has just one faulty run: there is one that follows it, and any
@@ -75,7 +78,8 @@ pub fn one_run()
 
 /// With no disturbed wire and no touched cell the faulty runs are the undisturbed ones.
 pub fn nothing_disturbed()
-    ensures { (c : Circuit) (f : Fault) → ((a : ℕ) → In f.disturbed a → ⊥) → ((name : List ℕ) → In f.touched name → ⊥)
+    ensures { (c : Circuit) (f : Fault) → ((a : ℕ) → In f.disturbed a → ⊥)
+        → ((name : List ℕ) → In f.touched name → ⊥)
         → (course : Course) (run : ℕ → World) → IsRunOf c f course run ↔ IsRunOf c no_fault course run }
 {}
 

@@ -5,7 +5,7 @@ use Rattle.std.specs.declared.cmp.Ordering.TheVariants.{Less, Equal, Greater}
 use Rattle.std.specs.Ordering.{nat_cmp, match_ordering, is_lt}
 use Rattle.std.specs.Cmp.Lexicographic.{slice_cmp}
 use Rattle.records.specs.Config.{ArcLine, TileText}
-use Rattle.config_grammar.specs.Ordered.{put_in_order, in_order, put_once, in_order_once}
+use Rattle.words.specs.Ordered.{put_in_order, in_order, put_once, in_order_once}
 use Rattle.config_grammar.specs.ConfigText.{arc_key, section_in_order}
 use Rattle.config_text.specs.Ascending.{goes_before, are_ascending, are_placed}
 use Rattle.config_text.proofs.Keys.{first_true, second_true}

@@ -115,5 +115,6 @@ pub fn two_drivers_are_contested()
 /// The feeds of the toggle's pins.
 pub fn feeds_of_toggle()
     ensures { let g = graph_of mini_a in
-        (f : FeedText) → In pin_feeds f → Feeds (routing_of g (image_of g toggle)) (wire_called g f.feed) (wire_called g f.pin) }
+        (f : FeedText) → In pin_feeds f
+        → Feeds (routing_of g (image_of g toggle)) (wire_called g f.feed) (wire_called g f.pin) }
 {}

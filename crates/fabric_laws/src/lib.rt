@@ -26,7 +26,8 @@ ghost use Rattle.words.specs.Members.{In};
 
 /// Each name stands for exactly one thing at each place: what `wire_of_name` computes.
 pub fn each_name_has_one_wire()
-    ensures { (place : ℕ × ℕ) (name : List ℕ) (rules : Rules) (wire : WireName) → IsWireName place name rules wire ↔ (wire_of_name place name rules ≡ wire) }
+    ensures { (place : ℕ × ℕ) (name : List ℕ) (rules : Rules) (wire : WireName)
+        → IsWireName place name rules wire ↔ (wire_of_name place name rules ≡ wire) }
 {}
 
 /// Those of a list that are chosen fit, and have as many bits as any of it that fits.
@@ -34,7 +35,8 @@ pub fn chosen_is_longest_that_fits<X>()
     ensures { (pattern : X → List PatternBit) (image : Bits) (origin : DeviceBit) (xs : List X) (x : X)
         → In (best_fits pattern image origin xs) x
         ↔ (In xs x × (fits image origin (pattern x) ≡ true)
-        × ((y : X) → In xs y → fits image origin (pattern y) ≡ true → length (pattern y) ≤ length (pattern x))) }
+        × ((y : X) → In xs y → fits image origin (pattern y) ≡ true
+        → length (pattern y) ≤ length (pattern x))) }
 {}
 
 /// An arc of a graph is chosen where it fits and has as many bits as any arc of its mux that fits.
@@ -42,14 +44,16 @@ pub fn chosen_arc_is_longest_of_its_mux()
     ensures { (g : Graph) (image : Bits) (a : GraphArc)
         → (is_chosen g image a ≡ true)
         ↔ ((fits image a.origin a.arc.bits ≡ true)
-        × ((b : GraphArc) → In g.arcs b → b.mux ≡ a.mux → fits image a.origin b.arc.bits ≡ true → length b.arc.bits ≤ length a.arc.bits)) }
+        × ((b : GraphArc) → In g.arcs b → b.mux ≡ a.mux → fits image a.origin b.arc.bits ≡ true
+        → length b.arc.bits ≤ length a.arc.bits)) }
 {}
 
 /// The links are those of the chosen arcs of all muxes, and the fixed connections and joins.
 pub fn links_are_chosen_or_fixed()
     ensures { (g : Graph) (image : Bits) (link : Link)
         → In (links_of g image) link
-        ↔ (((a : GraphArc) × (In g.arcs a × (is_chosen g image a ≡ true) × (link_of a ≡ link))) ⊎ In g.fixed link) }
+        ↔ (((a : GraphArc) × (In g.arcs a × (is_chosen g image a ≡ true) × (link_of a ≡ link)))
+        ⊎ In g.fixed link) }
 {}
 
 /// A routing-mux bit is one that the pattern of some arc names.
@@ -70,18 +74,21 @@ pub fn device_has_a_graph()
 
 /// The numbers of a graph's muxes stand for what the database and the names of wires say.
 pub fn muxes_stand()
-    ensures { (device : Device) (g : Graph) → IsGraph device g → (m : GraphMux) → In g.muxes m → MuxStands device g m }
+    ensures { (device : Device) (g : Graph) → IsGraph device g → (m : GraphMux) → In g.muxes m
+        → MuxStands device g m }
 {}
 
 /// The numbers of a graph's arcs stand for what the database and the names of wires say.
 pub fn arcs_stand()
-    ensures { (device : Device) (g : Graph) → IsGraph device g → (a : GraphArc) → In g.arcs a → ArcStands device g a }
+    ensures { (device : Device) (g : Graph) → IsGraph device g → (a : GraphArc) → In g.arcs a
+        → ArcStands device g a }
 {}
 
 /// No arc whose names stand for wires is lost.
 pub fn named_arcs_are_there()
     ensures { (device : Device) (g : Graph) → IsGraph device g
-        → (number : ℕ) (mux : Mux) (place : ℕ) (arc : Arc) → NamesArc device number mux place arc → HasArc g number mux place arc }
+        → (number : ℕ) (mux : Mux) (place : ℕ) (arc : Arc) → NamesArc device number mux place arc
+        → HasArc g number mux place arc }
 {}
 
 /// Whether the arcs agree can be tested.
@@ -92,10 +99,12 @@ pub fn agreement_is_tested()
 
 /// A bit of an image is as the last write that names it leaves it.
 pub fn last_write_decides()
-    ensures { (g : Graph) (config : Config) (b : DeviceBit) (value : Bool) → LastWritten (bit_writes (writes_of g config)) b value → image_of g config b ≡ value }
+    ensures { (g : Graph) (config : Config) (b : DeviceBit) (value : Bool)
+        → LastWritten (bit_writes (writes_of g config)) b value → image_of g config b ≡ value }
 {}
 
 /// A bit that no write names is 0.
 pub fn unwritten_bit_is_zero()
-    ensures { (g : Graph) (config : Config) (b : DeviceBit) → IsUnwritten (bit_writes (writes_of g config)) b → image_of g config b ≡ false }
+    ensures { (g : Graph) (config : Config) (b : DeviceBit) → IsUnwritten (bit_writes (writes_of g config)) b
+        → image_of g config b ≡ false }
 {}

@@ -1,6 +1,6 @@
 -- Each part of a design that is read has a cell output of its own.
 use Rattle.std.proofs.Common.{◌≡◌, ◌⊎◌, ℕ, suc, true, inl, inr, List, [], ◌∷◌, ◌++◌, map, flat_map, Option, Some, option_to_list, refl, sym, ap, ap₂, subst, ◌∙◌}
-use Rattle.std.specs.Prelude.{Ok, slice_get}
+use Rattle.std.specs.Prelude.{Ok, slice_get, length}
 use Rattle.std.specs.Option.{option_map_or}
 use Rattle.std.specs.Str.{bytes_eq}
 use Rattle.std.proofs.lemmas.List.{map-append}
@@ -175,7 +175,7 @@ module _ (device : Device) (k : Configured) (apart : IsApart k.side) (fit : IsFi
       let listed : In (pad_outs a.site.kind) name.0 = subst (λ o. In (option_to_list o) name.0) (sym name.1) (inl refl) in
       let there : number device k.graph a.site.tile name.0 ≡ Some (wire a.site.tile name.0) = pad_numbered c a name.0 listed in
       let out : wire a.site.tile name.0 ≡ s.out =
-      ap (λ (o : Option (List ℕ)). option_map_or (wire a.site.tile) o 0) (sym (in_wire_of role a.site.kind drives ∙ name.1)) ∙ ap (λ (p : PadCell). p.wire) a.cell ∙ sym d.0 in
+      ap (λ (o : Option (List ℕ)). option_map_or (wire a.site.tile) o (length k.graph.wires)) (sym (in_wire_of role a.site.kind drives ∙ name.1)) ∙ ap (λ (p : PadCell). p.wire) a.cell ∙ sym d.0 in
       subst (In (pad_outputs device k.graph a.site.tile a.site.kind)) out
       (in_filter_map_to (number device k.graph a.site.tile) (pad_outs a.site.kind) name.0 (wire a.site.tile name.0) listed there)
 

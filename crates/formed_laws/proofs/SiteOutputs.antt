@@ -1,6 +1,6 @@
 -- The cell outputs of the sites of a tile, kind by kind.
 use Rattle.std.proofs.Common.{◌≡◌, ℕ, inl, inr, List, [], ◌∷◌, ◌++◌, map, flat_map, filter_map, Option, Some, None, option_to_list, refl, ap, ap₂, ◌∙◌}
-use Rattle.std.specs.Prelude.{unwrap_or, false, pos, ◌+ℤ◌, if◌then◌else◌}
+use Rattle.std.specs.Prelude.{unwrap_or, false, pos, ◌+ℤ◌, if◌then◌else◌, length}
 use Rattle.std.specs.List.{cons_option}
 use Rattle.std.proofs.lemmas.List.Elements.{filter_map-append}
 use Rattle.words.specs.Members.{In}
@@ -30,9 +30,9 @@ given_by_each : {X Y Z : Type 0} (f : Y → Option Z) (g : X → List Y) (xs : L
 given_by_each f g [] = refl
 given_by_each {X} {Y} {Z} f g (x ∷ xs) = filter_map-append f (g x) (flat_map g xs) ∙ ap (λ (zs : List Z). filter_map f (g x) ++ zs) (given_by_each f g xs)
 
-itself : (o : Option ℕ) (n : ℕ) → o ≡ Some n → o ≡ Some (unwrap_or o 0)
-itself None n h = absurd (let no : ⊥ = cc in no)
-itself (Some m) n h = refl
+itself : (none : ℕ) (o : Option ℕ) (n : ℕ) → o ≡ Some n → o ≡ Some (unwrap_or o none)
+itself none None n h = absurd (let no : ⊥ = cc in no)
+itself none (Some m) n h = refl
 
 -- the outputs that a kind names
 abbrev pub slice_outs : SliceKind → List (List ℕ)
@@ -80,4 +80,4 @@ module _ (device : Device) (g : Graph) where
       let given = in_right others cells w (in_filter_map_to (wire_in rules tile) (output_names device tile ++ input_names device tile) name w (in_left (output_names device tile) (input_names device tile) name j) here) in
       let listed = (is.wires.members w).1 (in_flat_map (tile_wires device) device.grid.tiles tile w i given) in
       let n = position_there (same_wire w) g.wires w listed (same_wire_refl w) in
-      itself (number tile name) n.0 (then_to (number_of g.wires) (wire_in rules tile name) w n.0 here n.1)
+      itself (length g.wires) (number tile name) n.0 (then_to (number_of g.wires) (wire_in rules tile name) w n.0 here n.1)

@@ -45,8 +45,10 @@ pub fn read_side_is_apart()
 /// a table has 1 to 4 pins.
 pub fn read_profile_has_kinds_apart()
     ensures fit { (profile : Profile) → IsReadProfile profile → IsFit profile }
-    ensures slices { (profile : Profile) → IsReadProfile profile → KindsApart (λ k. k.tile) (λ k. k.name) profile.slices }
-    ensures pads { (profile : Profile) → IsReadProfile profile → KindsApart (λ k. k.tile) (λ k. k.name) profile.pads }
+    ensures slices { (profile : Profile) → IsReadProfile profile
+        → KindsApart (λ k. k.tile) (λ k. k.name) profile.slices }
+    ensures pads { (profile : Profile) → IsReadProfile profile
+        → KindsApart (λ k. k.tile) (λ k. k.name) profile.pads }
 {}
 
 /// In a grid that is read the tiles stand in byte order of their names, and no two have one name.
@@ -61,30 +63,40 @@ pub fn read_grid_has_tiles_apart()
 pub fn fitting_cells_are_well_formed()
     ensures read { (device : Device) (k : Configured) → IsReadDesign device k → IsFitDesign device k }
     ensures formed { (device : Device) (k : Configured) → IsFitDesign device k → IsWellFormed (circuit_of k) }
-    ensures any_image { (device : Device) (k : Configured) (image : Bits) → IsFitDesign device k → IsWellFormed (circuit_of (record k { image = image })) }
-    ensures entries { (device : Device) (k : Configured) → IsFitDesign device k → EntriesInDomain (circuit_of k) }
+    ensures any_image { (device : Device) (k : Configured) (image : Bits) → IsFitDesign device k
+        → IsWellFormed (circuit_of (record k { image = image })) }
+    ensures entries { (device : Device) (k : Configured) → IsFitDesign device k
+        → EntriesInDomain (circuit_of k) }
     ensures listed { (device : Device) (k : Configured) → IsFitDesign device k → OutputsListed k }
-    ensures ready { (device : Device) (k : Configured) → IsFitDesign device k → IsClean (routing k) → IsReady device k }
+    ensures ready { (device : Device) (k : Configured) → IsFitDesign device k → IsClean (routing k)
+        → IsReady device k }
 {}
 
 /// So the cells of a design that is read are well formed, and so is any circuit that its image makes.
 pub fn cells_are_well_formed()
-    ensures formed { (device : Device) (k : Configured) → IsReadDesign device k → IsWellFormed (circuit_of k) }
-    ensures entries { (device : Device) (k : Configured) → IsReadDesign device k → EntriesInDomain (circuit_of k) }
-    ensures of_circuits { (device : Device) (g : Graph) (image : Bits) (side : Side) (c : Circuit) → IsReadProfile device.profile → IsReadSide side
-        → IsGraph device g → NoOverlap device g → IsCircuitOf g device.profile image side c → IsWellFormed c × EntriesInDomain c }
+    ensures formed { (device : Device) (k : Configured) → IsReadDesign device k
+        → IsWellFormed (circuit_of k) }
+    ensures entries { (device : Device) (k : Configured) → IsReadDesign device k
+        → EntriesInDomain (circuit_of k) }
+    ensures of_circuits { (device : Device) (g : Graph) (image : Bits) (side : Side) (c : Circuit)
+        → IsReadProfile device.profile → IsReadSide side
+        → IsGraph device g → NoOverlap device g → IsCircuitOf g device.profile image side c
+        → IsWellFormed c × EntriesInDomain c }
     ensures listed { (device : Device) (k : Configured) → IsReadDesign device k → OutputsListed k }
-    ensures ready { (device : Device) (k : Configured) → IsReadDesign device k → IsClean (routing k) → IsReady device k }
+    ensures ready { (device : Device) (k : Configured) → IsReadDesign device k → IsClean (routing k)
+        → IsReady device k }
 {}
 
 /// Masking of a design that is read: where its routing is clean and it is triplicated, any flips that aren't bad leave
 /// each output pad outside one domain right, so at least two of each three; where it is safe, so does each single
 /// routing-mux bit.
 pub fn read_design_is_masked()
-    ensures flips { (device : Device) (k : Configured) → IsReadDesign device k → IsClean (routing k) → IsTriplicated (circuit_of k)
+    ensures flips { (device : Device) (k : Configured) → IsReadDesign device k → IsClean (routing k)
+        → IsTriplicated (circuit_of k)
         → (flips : Bits) (f : Fault) → IsEffect k flips f → (IsBad k flips → ⊥)
         → ((d : Domain) × RightOutside (circuit_of k) f d) × TwoAreRight (circuit_of k) f }
-    ensures mux_bits { (device : Device) (k : Configured) → IsReadDesign device k → IsClean (routing k) → IsTriplicated (circuit_of k) → IsSafe k
+    ensures mux_bits { (device : Device) (k : Configured) → IsReadDesign device k → IsClean (routing k)
+        → IsTriplicated (circuit_of k) → IsSafe k
         → (f : Fault) → IsMuxFault k f
         → ((d : Domain) × RightOutside (circuit_of k) f d) × TwoAreRight (circuit_of k) f }
 {}

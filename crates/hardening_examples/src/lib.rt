@@ -39,5 +39,6 @@ pub fn toggle_bytes_harden_crossed()
 
 /// Its printed text, its side file and the files of MINI-A are accepted, with its cells.
 pub fn crossed_is_accepted()
-    ensures { let g = graph_of mini_a in (design : Design) × IsAccepted crossed_files crossed_inputs design g (toggle_cells g) }
+    ensures { let g = graph_of mini_a in (design : Design)
+        × IsAccepted crossed_files crossed_inputs design g (toggle_cells g) }
 {}

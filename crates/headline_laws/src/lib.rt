@@ -45,7 +45,8 @@ pub fn start_keeps()
 /// A candidate step keeps the design again.
 pub fn step_keeps()
     ensures { (job : Job) → IsSoundJob job → (state : State) → StateKeeps job state
-        → (step : Step) → IsCandidate job state step → (cut : Cut) → StateKeeps job (after_step state step cut) }
+        → (step : Step) → IsCandidate job state step → (cut : Cut)
+        → StateKeeps job (after_step state step cut) }
 {}
 
 /// What a router writes in the end keeps the design and has each of its connections.
@@ -82,5 +83,6 @@ pub fn accepted_is_a_sound_job()
 /// that was read, and after the flip of any one routing-mux bit two of each three outputs at least keep them.
 pub fn accepted_design_is_hardened()
     ensures { (files : Files) (inputs : Inputs) (a : Accepted files inputs) (h : Hardening)
-        → (y : Layout) → EndsRouted (job_of a.design a.graph a.cells h) y → Hardens (its_configured a) (configured y) }
+        → (y : Layout) → EndsRouted (job_of a.design a.graph a.cells h) y
+        → Hardens (its_configured a) (configured y) }
 {}

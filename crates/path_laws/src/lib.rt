@@ -16,14 +16,16 @@ pub fn no_path_crosses_a_cut()
 /// At most one path is the path.
 pub fn one_path()
     ensures { (g : Wiring) (r : Rules) (tree path other : List ℕ) (pin : ℕ)
-        → IsThePath (roads_of g r) r.weight (In tree) path pin → IsThePath (roads_of g r) r.weight (In tree) other pin
+        → IsThePath (roads_of g r) r.weight (In tree) path pin
+        → IsThePath (roads_of g r) r.weight (In tree) other pin
         → path ≡ other }
 {}
 
 /// At most one cut, with its rim, is the least.
 pub fn one_least_cut()
     ensures { (g : Wiring) (r : Rules) (tree inside rim other edge : List ℕ) (pin : ℕ)
-        → IsBlockedBy (roads_of g r) (In tree) inside rim pin → IsBlockedBy (roads_of g r) (In tree) other edge pin
+        → IsBlockedBy (roads_of g r) (In tree) inside rim pin
+        → IsBlockedBy (roads_of g r) (In tree) other edge pin
         → (inside ≡ other) × (rim ≡ edge) }
 {}
 
@@ -32,7 +34,8 @@ pub fn least_cut_is_what_is_reached()
     ensures { (g : Wiring) (r : Rules) (tree : List ℕ) → IsWiring g → IsRules g r → IsTree g r tree
         → (inside : List ℕ) (pin : ℕ)
         → IsLeastCut (roads_of g r) (In tree) inside pin
-        ↔ (((w : ℕ) → In inside w ↔ ((path : List ℕ) × IsPath (roads_of g r) (In tree) path w)) × (In inside pin → ⊥)) }
+        ↔ (((w : ℕ) → In inside w ↔ ((path : List ℕ) × IsPath (roads_of g r) (In tree) path w))
+        × (In inside pin → ⊥)) }
 {}
 
 /// The path enters no wire twice.
@@ -43,9 +46,11 @@ pub fn least_path_has_no_sink_twice()
 
 /// There is the path or the least cut, and never both.
 pub fn path_or_cut()
-    ensures one { (g : Wiring) (r : Rules) (tree : List ℕ) (pin : ℕ) → IsWiring g → IsRules g r → IsTree g r tree
+    ensures one { (g : Wiring) (r : Rules) (tree : List ℕ) (pin : ℕ) → IsWiring g → IsRules g r
+        → IsTree g r tree
         → ((path : List ℕ) × IsThePath (roads_of g r) r.weight (In tree) path pin)
         ⊎ ((inside : List ℕ) × ((rim : List ℕ) × IsBlockedBy (roads_of g r) (In tree) inside rim pin)) }
     ensures not_both { (g : Wiring) (r : Rules) (tree path inside rim : List ℕ) (pin : ℕ)
-        → IsThePath (roads_of g r) r.weight (In tree) path pin → IsBlockedBy (roads_of g r) (In tree) inside rim pin → ⊥ }
+        → IsThePath (roads_of g r) r.weight (In tree) path pin
+        → IsBlockedBy (roads_of g r) (In tree) inside rim pin → ⊥ }
 {}

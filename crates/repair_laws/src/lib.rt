@@ -38,16 +38,20 @@ pub fn usable_arc_keeps()
 
 /// So does a path of arcs that are all usable in one routing; afterwards the net feeds the pin.
 pub fn path_keeps()
-    ensures kept { (device : Device) (t : Turn) (path : List GraphArc) (pin : ℕ) → IsReadyTurn device t → IsSafe t.now
+    ensures kept { (device : Device) (t : Turn) (path : List GraphArc) (pin : ℕ) → IsReadyTurn device t
+        → IsSafe t.now
         → IsRoute t path pin → HasNoSinkTwice (roads_for t) path → AreKept t path }
-    ensures connected { (device : Device) (t : Turn) (path : List GraphArc) (pin : ℕ) → IsReadyTurn device t → IsSafe t.now
-        → IsRoute t path pin → HasNoSinkTwice (roads_for t) path → Feeds (routing (added_all t.now path)) t.net.out pin }
+    ensures connected { (device : Device) (t : Turn) (path : List GraphArc) (pin : ℕ) → IsReadyTurn device t
+        → IsSafe t.now
+        → IsRoute t path pin → HasNoSinkTwice (roads_for t) path
+        → Feeds (routing (added_all t.now path)) t.net.out pin }
 {}
 
 /// What flips of other bits do after a usable arc.
 pub fn arc_keeps_other_effects()
     ensures { (device : Device) (t : Turn) (a : GraphArc) (flips : Bits) → IsReadyTurn device t
-        → IsUsable t a → InTree t a.source → (is_affected t.now.graph flips a.mux ≡ true → ⊥) → KeepsEffect t a flips }
+        → IsUsable t a → InTree t a.source → (is_affected t.now.graph flips a.mux ≡ true → ⊥)
+        → KeepsEffect t a flips }
 {}
 
 /// What the flip of a bit of its own mux does after a usable arc.

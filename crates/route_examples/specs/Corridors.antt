@@ -184,7 +184,3 @@ second_ways g =
     ∷ to_pin_over_v g 12
     ∷ up_to_pad g 13
     ∷ []
-
--- where so many connections of the second attempt are routed
-abbrev pub again : Graph → ℕ → Layout
-again g n = with_ways (bare g) (take n (second_ways g))

@@ -1,5 +1,5 @@
 -- The crossed toggle on MINI-A, without the routes of the two nets that its bad bit reaches, and routed again.
-use Rattle.std.specs.Prelude.{ℕ, ◌+◌, take, false, List, [], ◌∷◌, codes}
+use Rattle.std.specs.Prelude.{ℕ, ◌+◌, false, List, [], ◌∷◌, codes}
 use Rattle.records.specs.Config.{Config}
 use Rattle.records.specs.Side.{Domain, D0}
 use Rattle.records.specs.Ripping.{RipUnsafe}
@@ -14,7 +14,7 @@ use Rattle.attempts.specs.Jobs.{Job, State}
 use Rattle.mini.specs.MiniA.{mini_a}
 use Rattle.mini.specs.Toggle.{line, slice_text, output_text, clock_text, crossed, toggle_side}
 use Rattle.mini.specs.ToggleCells.{wire_at, toggle_cells}
-use Rattle.route_examples.specs.Corridors.{table_of, pad_of, section_without_arcs, arcs_through, with_ways}
+use Rattle.route_examples.specs.Corridors.{table_of, pad_of, section_without_arcs, arcs_through}
 
 -- a text with the toggle's cells
 abbrev pub with_cells : Graph → Config → Layout
@@ -116,10 +116,6 @@ off_h0 g column = arcs_through g (wire_at g 1 column (codes "H0") ∷ wire_at g 
 -- the paths of all eight
 abbrev pub eight_ways : Graph → List (List GraphArc)
 eight_ways g = up g ∷ over g (codes "H1") ∷ on_to g 1 ∷ on_to g 2 ∷ up_from_a2 g ∷ over_h0 g ∷ off_h0 g 2 ∷ off_h0 g 3 ∷ []
-
--- where so many are routed
-abbrev pub uncrossed : Graph → ℕ → Layout
-uncrossed g n = with_ways (with_cells g rest_of_crossed) (take n (eight_ways g))
 
 -- where the first connection is routed
 abbrev pub after_up : Graph → Layout

@@ -32,7 +32,8 @@ ghost use Rattle.upset.specs.Safe.{IsSafe};
 
 /// The corridor on MINI-B has these cells, is clean, and is safe as it is written.
 pub fn corridor_is_safe()
-    ensures cells { let g = graph_of mini_b in cells_of g mini_b.profile (image_of g corridor) corridor_side ≡ Ok (corridor_cells g) }
+    ensures cells { let g = graph_of mini_b in cells_of g mini_b.profile (image_of g corridor) corridor_side
+        ≡ Ok (corridor_cells g) }
     ensures clean { let g = graph_of mini_b in IsClean (routing (configured (with_corridor g corridor))) }
     ensures safe { let g = graph_of mini_b in IsSafe (configured (with_corridor g corridor)) }
     ensures bits { length (sorted_once bit_cmp (mux_bits (graph_of mini_b))) ≡ 196 }
@@ -46,8 +47,10 @@ pub fn corridor_is_triplicated()
 
 /// Repair of the whole corridor starts from its text without arc lines, with these fifteen connections in this order.
 pub fn corridor_starts()
-    ensures start { let g = graph_of mini_b in (rounds : ℕ) → IsFirstState (corridor_job g rounds) (corridor_start g) }
-    ensures order { let g = graph_of mini_b in map (connection_text g (bare g).cells) (corridor_start g).order ≡ fifteen_texts }
+    ensures start { let g = graph_of mini_b in (rounds : ℕ)
+        → IsFirstState (corridor_job g rounds) (corridor_start g) }
+    ensures order { let g = graph_of mini_b in map (connection_text g (bare g).cells) (corridor_start g).order
+        ≡ fifteen_texts }
 {}
 
 /// In the corridor, where the first seven connections are routed, the connection of v0 to its pad is blocked: the
@@ -69,7 +72,8 @@ pub fn first_attempt_is_blocked()
 /// With one attempt at most, repair of the corridor ends without a route.
 pub fn one_round_is_not_enough()
     ensures { let g = graph_of mini_b in
-        IsAnswer (corridor_job g 1) (Ended (blocked_event (corridor_start g) eighth ∷ []) (no_route (corridor_start g) EndRounds eighth (cut g))) }
+        IsAnswer (corridor_job g 1) (Ended (blocked_event (corridor_start g) eighth
+        ∷ []) (no_route (corridor_start g) EndRounds eighth (cut g))) }
 {}
 
 /// With more, the blocked connection comes first in the second attempt, which is complete and gives the corridor: v0
@@ -79,9 +83,11 @@ pub fn second_attempt_is_complete()
     ensures over_v { let g = graph_of mini_b in map (λ a. text_of g a.sink) (u0_over_v g) ≡ codes "R1C1/V" ∷ codes "R1C2/V" ∷ codes "R1C3/V" ∷ codes "R1C3/D" ∷ [] }
     ensures paths { let g = graph_of mini_b in with_ways (bare g) (second_ways g) ≡ with_corridor g corridor }
     ensures comes_out { let g = graph_of mini_b in
-        ComesOut (read g) (rim g ∷ []) (bare g) (eighth ∷ (first_seven ++ last_seven)) (Complete (with_corridor g corridor)) }
+        ComesOut (read g) (rim g ∷ []) (bare g) (eighth
+        ∷ (first_seven ++ last_seven)) (Complete (with_corridor g corridor)) }
     ensures answer { let g = graph_of mini_b in
-        IsAnswer (corridor_job g 32) (Ended (blocked_event (corridor_start g) eighth ∷ AttemptComplete ∷ []) (Routed (with_corridor g corridor) 15)) }
+        IsAnswer (corridor_job g 32) (Ended (blocked_event (corridor_start g) eighth ∷ AttemptComplete
+        ∷ []) (Routed (with_corridor g corridor) 15)) }
 {}
 
 /// Repair of the crossed toggle rips the two nets that its bad bit reaches, and no other: from this text it starts, with
@@ -104,6 +110,8 @@ pub fn first_track_is_taken()
 
 /// So the crossed toggle is repaired in one attempt, and is then the toggle.
 pub fn crossed_becomes_the_toggle()
-    ensures paths { let g = graph_of mini_a in with_ways (with_cells g rest_of_crossed) (eight_ways g) ≡ with_cells g toggle }
-    ensures answer { let g = graph_of mini_a in IsAnswer (crossed_job g) (Ended (AttemptComplete ∷ []) (Routed (with_cells g toggle) 8)) }
+    ensures paths { let g = graph_of mini_a in with_ways (with_cells g rest_of_crossed) (eight_ways g)
+        ≡ with_cells g toggle }
+    ensures answer { let g = graph_of mini_a in IsAnswer (crossed_job g) (Ended (AttemptComplete
+        ∷ []) (Routed (with_cells g toggle) 8)) }
 {}

@@ -40,7 +40,8 @@ pub fn usable_is_decided()
 
 /// At most one path is the path of a connection.
 pub fn one_route()
-    ensures { (device : Device) (rims : List (List ℕ)) (t : Turn) (path other : List GraphArc) (pin : ℕ) → IsGraph device t.now.graph
+    ensures { (device : Device) (rims : List (List ℕ)) (t : Turn) (path other : List GraphArc) (pin : ℕ)
+        → IsGraph device t.now.graph
         → IsTheRoute rims t path pin → IsTheRoute rims t other pin → path ≡ other }
 {}
 
@@ -72,7 +73,8 @@ pub fn cut_is_what_is_reached()
 /// A connection has its path or its cut, and never both.
 pub fn route_or_cut()
     ensures one { (rims : List (List ℕ)) (t : Turn) (pin : ℕ)
-        → ((path : List GraphArc) × IsTheRoute rims t path pin) ⊎ ((inside : List ℕ) × ((rim : List ℕ) × IsBlocked t inside rim pin)) }
+        → ((path : List GraphArc) × IsTheRoute rims t path pin)
+        ⊎ ((inside : List ℕ) × ((rim : List ℕ) × IsBlocked t inside rim pin)) }
     ensures not_both { (rims : List (List ℕ)) (t : Turn) (path : List GraphArc) (inside rim : List ℕ) (pin : ℕ)
         → IsTheRoute rims t path pin → IsBlocked t inside rim pin → ⊥ }
 {}
@@ -84,44 +86,52 @@ pub fn connections_are_listed()
 
 /// The plain list of usable arcs is exact.
 pub fn usable_arcs_are_exact()
-    ensures { (device : Device) (t : Turn) → IsGraph device t.now.graph → IsClean (routing t.now) → OutputsListed t.now
+    ensures { (device : Device) (t : Turn) → IsGraph device t.now.graph → IsClean (routing t.now)
+        → OutputsListed t.now
         → (arcs : List GraphArc) → ((a : GraphArc) → In arcs a → In t.now.graph.arcs a)
         → (a : GraphArc) → In (usable_among t arcs) a ↔ (In arcs a × IsUsable t a) }
 {}
 
 /// What passes the plain test of a cut is the cut of a blocked connection with its rim.
 pub fn cut_is_tested()
-    ensures { (device : Device) (t : Turn) → IsGraph device t.now.graph → IsClean (routing t.now) → OutputsListed t.now
+    ensures { (device : Device) (t : Turn) → IsGraph device t.now.graph → IsClean (routing t.now)
+        → OutputsListed t.now
         → (inside rim : List ℕ) (pin : ℕ) → is_blocked t inside rim pin ≡ true → IsBlocked t inside rim pin }
 {}
 
 /// Of the paths up to a weight the plain list of first paths holds just the path of the connection.
 pub fn first_path_is_exact()
-    ensures { (device : Device) (t : Turn) → IsGraph device t.now.graph → IsClean (routing t.now) → OutputsListed t.now
+    ensures { (device : Device) (t : Turn) → IsGraph device t.now.graph → IsClean (routing t.now)
+        → OutputsListed t.now
         → (rims : List (List ℕ)) (n pin : ℕ) (path : List GraphArc) → weight_by rims t path ≤ n
         → In (first_paths rims t n pin) path ↔ IsTheRoute rims t path pin }
 {}
 
 /// The plain list of ripped nets is exact.
 pub fn ripped_nets_are_exact()
-    ensures { (device : Device) (k : Configured) → IsGraph device k.graph → IsClean (routing k) → OutputsListed k
+    ensures { (device : Device) (k : Configured) → IsGraph device k.graph → IsClean (routing k)
+        → OutputsListed k
         → (rip : Rip) (net : ℕ) → In (ripped_nets rip device k) net ↔ IsRipped rip device k net }
 {}
 
 /// The plain text without the routes of ripped nets is what it should be.
 pub fn rest_is_exact()
-    ensures { (device : Device) (k : Configured) → IsGraph device k.graph → IsClean (routing k) → OutputsListed k
-        → (rip : Rip) (config : Config) → IsRest (IsRipped rip device k) config k (rest_of rip device config k) }
+    ensures { (device : Device) (k : Configured) → IsGraph device k.graph → IsClean (routing k)
+        → OutputsListed k
+        → (rip : Rip) (config : Config)
+        → IsRest (IsRipped rip device k) config k (rest_of rip device config k) }
 {}
 
 /// The plain list of ripped connections is exact.
 pub fn ripped_connections_are_exact()
-    ensures { (job : Job) → let k = configured job.design in IsGraph job.device k.graph → IsClean (routing k) → OutputsListed k
+    ensures { (job : Job) → let k = configured job.design in IsGraph job.device k.graph → IsClean (routing k)
+        → OutputsListed k
         → (x : Connection) → In (ripped_connections job) x ↔ IsRippedAtStart job x }
 {}
 
 /// The plain test of an order of connections is exact.
 pub fn order_is_tested()
     ensures { (cells : Cells) (named list : List Connection)
-        → (is_order cells named list ≡ true) ↔ (IsRising (connection_cmp cells) list × ((x : Connection) → In list x ↔ In named x)) }
+        → (is_order cells named list ≡ true) ↔ (IsRising (connection_cmp cells) list
+        × ((x : Connection) → In list x ↔ In named x)) }
 {}

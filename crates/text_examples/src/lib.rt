@@ -33,14 +33,18 @@ pub fn toggle_is_formed()
 
 /// What the toggle's text is read as leaves the image of the toggle, and none of its lines is refused.
 pub fn toggle_is_read_alike()
-    ensures image { (d : Config) → configuration_of (config_text toggle) ≡ Ok d → image_of (graph_of mini_a) d ≡ image_of (graph_of mini_a) toggle }
-    ensures lines { (d : Config) → configuration_of (config_text toggle) ≡ Ok d → line_refusal (graph_of mini_a) d ≡ None }
+    ensures image { (d : Config) → configuration_of (config_text toggle) ≡ Ok d
+        → image_of (graph_of mini_a) d ≡ image_of (graph_of mini_a) toggle }
+    ensures lines { (d : Config) → configuration_of (config_text toggle) ≡ Ok d
+        → line_refusal (graph_of mini_a) d ≡ None }
 {}
 
 /// A worked configuration is one that is read, its text says it, and is read as it.
 pub fn printed_config()
     ensures read { IsReadConfig worked_config }
-    ensures says { map (λ item. item.says) (items_of (config_text worked_config)) ≡ map (λ said. Some said) (said_by worked_config) }
+    ensures says { map (λ item. item.says) (items_of (config_text worked_config))
+        ≡ map (λ said. Some said) (said_by worked_config) }
     ensures heads { heads_of (items_of written_text) ≡ worked_config.heads }
-    ensures again { (d : Config) × ((configuration_of (config_text worked_config) ≡ Ok d) × SameButLines worked_config d) }
+    ensures again { (d : Config) × ((configuration_of (config_text worked_config) ≡ Ok d)
+        × SameButLines worked_config d) }
 {}

@@ -38,7 +38,8 @@ pub fn printed_side_is_read()
 
 /// Texts that are printed with a line feed behind each are the lines of what is printed.
 pub fn printed_lines_are_lines()
-    ensures { (texts : List (List ℕ)) → AreOneLine texts → map (λ line. line.text) (lines_of (lined texts)) ≡ texts }
+    ensures { (texts : List (List ℕ)) → AreOneLine texts
+        → map (λ line. line.text) (lines_of (lined texts)) ≡ texts }
 {}
 
 /// A line that says something says the same when it is printed, and is one line then.
@@ -65,7 +66,8 @@ pub fn read_config_is_formed()
 
 /// The text of a configuration of that form has its lines, in order, and nothing else.
 pub fn printed_config_says_it()
-    ensures { (c : Config) → IsFormedText c → map (λ item. item.says) (items_of (config_text c)) ≡ map (λ said. Some said) (said_by c) }
+    ensures { (c : Config) → IsFormedText c → map (λ item. item.says) (items_of (config_text c))
+        ≡ map (λ said. Some said) (said_by c) }
 {}
 
 /// It names the device and has the heads of the configuration, and its sections are those with lines, but for the numbers
@@ -74,7 +76,8 @@ pub fn printed_config_has_its_parts()
     ensures heads { (c : Config) → IsFormedText c → heads_of (items_of (config_text c)) ≡ c.heads }
     ensures device { (c : Config) → IsFormedText c → devices_of (items_of (config_text c)) ≡ c.device ∷ [] }
     ensures sections { (c : Config) → IsFormedText c
-        → map unnumbered (sections_of (items_of (config_text c))) ≡ map unnumbered (filter has_lines c.tiles) }
+        → map unnumbered (sections_of (items_of (config_text c)))
+        ≡ map unnumbered (filter has_lines c.tiles) }
 {}
 
 /// What the text of a configuration of that form says is the same configuration, but for the numbers of lines and sections
@@ -86,26 +89,32 @@ pub fn printed_config_says_the_same()
 /// The text of a configuration of that form is read, without a fault and as the same configuration but for the numbers
 /// of lines and sections without lines. What is read has lines in each section.
 pub fn printed_config_is_read()
-    ensures same { (c : Config) → IsFormedText c → (d : Config) × ((configuration_of (config_text c) ≡ Ok d) × SameButLines c d) }
-    ensures lines { (c d : Config) → IsFormedText c → configuration_of (config_text c) ≡ Ok d → EachHasLines d }
+    ensures same { (c : Config) → IsFormedText c
+        → (d : Config) × ((configuration_of (config_text c) ≡ Ok d) × SameButLines c d) }
+    ensures lines { (c d : Config) → IsFormedText c → configuration_of (config_text c) ≡ Ok d
+        → EachHasLines d }
 {}
 
 /// Configurations that are the same but for the numbers of lines and sections without lines leave the same image and have
 /// lines for the same arcs, so their arcs agree with the same images.
 pub fn the_same_but_for_lines()
     ensures image { (g : Graph) (c d : Config) → SameButLines c d → image_of g c ≡ image_of g d }
-    ensures lines { (g : Graph) (c d : Config) (arc : GraphArc) → SameButLines c d → HasLine g c arc ↔ HasLine g d arc }
-    ensures agree { (g : Graph) (image : Bits) (c d : Config) → SameButLines c d → ArcsAgree g image c ↔ ArcsAgree g image d }
+    ensures lines { (g : Graph) (c d : Config) (arc : GraphArc) → SameButLines c d → HasLine g c arc
+        ↔ HasLine g d arc }
+    ensures agree { (g : Graph) (image : Bits) (c d : Config) → SameButLines c d → ArcsAgree g image c
+        ↔ ArcsAgree g image d }
 {}
 
 /// Where each line of a configuration names what is there, so does each line of one that is the same but for the numbers of
 /// lines and has lines in each section. (A section without lines may be of a tile that isn't there.)
 pub fn the_same_lines_are_not_refused()
-    ensures { (g : Graph) (c d : Config) → SameButLines c d → EachHasLines d → line_refusal g c ≡ None → line_refusal g d ≡ None }
+    ensures { (g : Graph) (c d : Config) → SameButLines c d → EachHasLines d → line_refusal g c ≡ None
+        → line_refusal g d ≡ None }
 {}
 
 /// Such configurations print the same bytes. So a text that is printed is the print of each configuration that it is read as.
 pub fn the_same_but_for_lines_print_the_same()
     ensures same { (c d : Config) → SameButLines c d → config_text d ≡ config_text c }
-    ensures printed { (c d : Config) → IsFormedText c → configuration_of (config_text c) ≡ Ok d → config_text d ≡ config_text c }
+    ensures printed { (c d : Config) → IsFormedText c → configuration_of (config_text c) ≡ Ok d
+        → config_text d ≡ config_text c }
 {}

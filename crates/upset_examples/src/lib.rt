@@ -31,7 +31,8 @@ pub fn toggle_is_safe()
 pub fn toggle_is_masked()
     ensures formed { IsWellFormed (circuit_of (with_toggle (graph_of mini_a) toggle)) }
     ensures triplicated { IsTriplicated (circuit_of (with_toggle (graph_of mini_a) toggle)) }
-    ensures masked { let k = with_toggle (graph_of mini_a) toggle in (f : Fault) → IsMuxFault k f → TwoAreRight (circuit_of k) f }
+    ensures masked { let k = with_toggle (graph_of mini_a) toggle in (f : Fault) → IsMuxFault k f
+        → TwoAreRight (circuit_of k) f }
 {}
 
 /// Where copies 0 and 2 run side by side, one flip joins them: mux T of the third slice gets both as sources.
@@ -39,7 +40,8 @@ pub fn crossed_is_bad()
     ensures hit { let k = with_toggle (graph_of mini_a) crossed in map (text_of k.graph) (hit_wires k (flip 52 11)) ≡ codes "R1C3/T" ∷ codes "R1C3/T" ∷ [] }
     ensures joined { let k = with_toggle (graph_of mini_a) crossed in
         map (text_of k.graph) (short_sources k (flip 52 11)) ≡ codes "R1C3/H3" ∷ codes "R1C3/H4" ∷ codes "R1C3/H3" ∷ codes "R1C3/H4" ∷ [] }
-    ensures domains { let k = with_toggle (graph_of mini_a) crossed in domains_of k (fed_wires k) (flip 52 11) ≡ D0 ∷ D2 ∷ [] }
+    ensures domains { let k = with_toggle (graph_of mini_a) crossed in domains_of k (fed_wires k) (flip 52 11)
+        ≡ D0 ∷ D2 ∷ [] }
     ensures bad { IsBad (with_toggle (graph_of mini_a) crossed) (flip 52 11) }
 {}
 
@@ -47,8 +49,10 @@ pub fn crossed_is_bad()
 /// shorted, so the flip has the wire's own domain alone.
 pub fn one_source_for_another()
     ensures hit { let k = with_slices (graph_of mini_a) three_arcs in map (text_of k.graph) (hit_wires k (flip 32 1)) ≡ codes "R0C2/PO" ∷ [] }
-    ensures not_shorted { let k = with_slices (graph_of mini_a) three_arcs in short_sources k (flip 32 1) ≡ [] }
+    ensures not_shorted { let k = with_slices (graph_of mini_a) three_arcs in short_sources k (flip 32 1)
+        ≡ [] }
     ensures disturbed { let k = with_slices (graph_of mini_a) three_arcs in (w : ℕ) → IsDisturbed k (flip 32 1) w ↔ (w ≡ wire_at k.graph 0 2 (codes "PO")) }
-    ensures domains { let k = with_slices (graph_of mini_a) three_arcs in (d : Domain) → FlipsHave k (flip 32 1) d ↔ (d ≡ D0) }
+    ensures domains { let k = with_slices (graph_of mini_a) three_arcs in (d : Domain)
+        → FlipsHave k (flip 32 1) d ↔ (d ≡ D0) }
     ensures not_bad { IsBad (with_slices (graph_of mini_a) three_arcs) (flip 32 1) → ⊥ }
 {}

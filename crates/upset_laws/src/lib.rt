@@ -23,7 +23,8 @@ ghost use Rattle.circuit.specs.Sound.{IsSoundCircuit};
 /// In a clean image the domains of flips are those of the hit wires, of the sources of shorted wires and of the
 /// touched cells: the drivers further back add none.
 pub fn domains_are_those_of_roots()
-    ensures { (k : Configured) (flips : Bits) → IsClean (routing_of k.graph k.image) → (d : Domain) → FlipsHave k flips d ↔ RootsHave k flips d }
+    ensures { (k : Configured) (flips : Bits) → IsClean (routing_of k.graph k.image) → (d : Domain)
+        → FlipsHave k flips d ↔ RootsHave k flips d }
 {}
 
 /// A wire without a feed is disturbed only where it is hit or a source of a shorted wire.
@@ -39,7 +40,8 @@ pub fn effect_is_listed()
 
 /// Where no bit flips, the faulty runs are the undisturbed ones.
 pub fn no_flips_change_nothing()
-    ensures { (k : Configured) (flips : Bits) → ((b : DeviceBit) → flips b ≡ false) → (f : Fault) → IsEffect k flips f
+    ensures { (k : Configured) (flips : Bits) → ((b : DeviceBit) → flips b ≡ false) → (f : Fault)
+        → IsEffect k flips f
         → (course : Course) (run : ℕ → World)
         → IsRunOf (circuit_of k) f course run ↔ IsRunOf (circuit_of k) no_fault course run }
 {}
@@ -67,28 +69,33 @@ pub fn safe_image_masks_each_mux_bit()
 
 /// The plain list of hit wires is exact.
 pub fn hit_wires_are_exact()
-    ensures { (device : Device) (k : Configured) → IsGraph device k.graph → (flips : Bits) (w : ℕ) → In (hit_wires k flips) w ↔ IsHit k flips w }
+    ensures { (device : Device) (k : Configured) → IsGraph device k.graph → (flips : Bits) (w : ℕ)
+        → In (hit_wires k flips) w ↔ IsHit k flips w }
 {}
 
 /// The plain list of the sources of shorted wires is exact.
 pub fn short_sources_are_exact()
-    ensures { (device : Device) (k : Configured) → IsGraph device k.graph → (flips : Bits) (x : ℕ) → In (short_sources k flips) x ↔ IsShortSource k flips x }
+    ensures { (device : Device) (k : Configured) → IsGraph device k.graph → (flips : Bits) (x : ℕ)
+        → In (short_sources k flips) x ↔ IsShortSource k flips x }
 {}
 
 /// The plain list of the domains of flips is exact.
 pub fn domains_are_exact()
-    ensures { (device : Device) (k : Configured) → IsGraph device k.graph → IsClean (routing_of k.graph k.image) → OutputsListed k
+    ensures { (device : Device) (k : Configured) → IsGraph device k.graph
+        → IsClean (routing_of k.graph k.image) → OutputsListed k
         → (flips : Bits) (d : Domain) → In (domains_of k (fed_wires k) flips) d ↔ FlipsHave k flips d }
 {}
 
 /// The plain test of bad flips is exact.
 pub fn bad_is_tested()
-    ensures { (device : Device) (k : Configured) → IsGraph device k.graph → IsClean (routing_of k.graph k.image) → OutputsListed k
+    ensures { (device : Device) (k : Configured) → IsGraph device k.graph
+        → IsClean (routing_of k.graph k.image) → OutputsListed k
         → (flips : Bits) → (is_bad k flips ≡ true) ↔ IsBad k flips }
 {}
 
 /// The plain test of safe images is exact.
 pub fn safe_is_tested()
-    ensures { (device : Device) (k : Configured) → IsGraph device k.graph → IsClean (routing_of k.graph k.image) → OutputsListed k
+    ensures { (device : Device) (k : Configured) → IsGraph device k.graph
+        → IsClean (routing_of k.graph k.image) → OutputsListed k
         → (is_safe k ≡ true) ↔ IsSafe k }
 {}

@@ -2,7 +2,7 @@
 
 ghost use Rattle.std.specs.Prelude.{◌≡◌, ◌<◌, ◌≤◌, length};
 ghost use Rattle.fabric.specs.WireNames.{IsWireName};
-ghost use Rattle.fabric.specs.WireOfName.{begins_with_one as begins_with_one_of, without_chip as without_chip_of, wire_at as wire_at_of, wire_of_name};
+ghost use Rattle.fabric.specs.WireOfName.{begins_with_one as begins_with_one_of, without_chip as without_chip_of, wire_of_relative as wire_at_of, wire_of_name};
 ghost use Rattle.wire_names.specs.Kept.{IsShortOrIgnored};
 ghost use Rattle.wire_names.specs.LentNames.{wire_name};
 ghost use Rattle.wire_names.specs.Parts.{relative_view};

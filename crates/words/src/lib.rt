@@ -8,10 +8,12 @@ ghost use Rattle.words.specs.Firsts.{first_fault, Faultless, IsFirstFault};
 
 /// The fault that `first_fault` names is that of the first faulty element.
 pub fn first_fault_is_first<X, E>()
-    ensures { (fault : List X → X → Option E) (xs : List X) (e : E) → first_fault fault xs ≡ Some e → IsFirstFault fault xs e }
+    ensures { (fault : List X → X → Option E) (xs : List X) (e : E) → first_fault fault xs ≡ Some e
+        → IsFirstFault fault xs e }
 {}
 
 /// Where `first_fault` names none, no element has a fault.
 pub fn no_fault_is_faultless<X, E>()
-    ensures { (fault : List X → X → Option E) (xs : List X) → first_fault fault xs ≡ None → Faultless fault xs }
+    ensures { (fault : List X → X → Option E) (xs : List X) → first_fault fault xs ≡ None
+        → Faultless fault xs }
 {}

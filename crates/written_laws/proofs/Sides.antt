@@ -127,7 +127,7 @@ module _ (job : Job) (sound : IsSoundJob job) (read : IsReadDevice job.device) (
 
   -- the side file is that of the design with its slices elsewhere
   abbrev its_parts : with_slices side y.side.slices ≡ y.side
-  its_parts i = record { slices = y.side.slices; pads = k.pads i; triples = k.side.triples i; inputs = k.side.inputs i; outputs = k.side.outputs i; clocks = k.side.clocks i; voters = k.side.voters i }
+  its_parts i = record { slices = y.side.slices; pads = k.side.pads i; triples = k.side.triples i; inputs = k.side.inputs i; outputs = k.side.outputs i; clocks = k.side.clocks i; voters = k.side.voters i }
 
   faultless : side_fault side ≡ None → side_fault y.side ≡ None
   faultless h =

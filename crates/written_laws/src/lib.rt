@@ -43,17 +43,21 @@ pub fn accepted_design_may_be_hardened()
 /// The text that a router leaves of such a design names its device and has its heads, each of its sections names what is
 /// there, and no line of it is refused.
 pub fn written_lines_are_there()
-    ensures writable { (design : Design) (g : Graph) (cells : Cells) (h : Hardening) → MayBeHardened design g cells h
+    ensures writable { (design : Design) (g : Graph) (cells : Cells) (h : Hardening)
+        → MayBeHardened design g cells h
         → (y : Layout) → EndsRouted (job_of design g cells h) y → IsWritable g design.config y.config }
-    ensures none_refused { (design : Design) (g : Graph) (cells : Cells) (h : Hardening) → MayBeHardened design g cells h
+    ensures none_refused { (design : Design) (g : Graph) (cells : Cells) (h : Hardening)
+        → MayBeHardened design g cells h
         → (y : Layout) → EndsRouted (job_of design g cells h) y → line_refusal g y.config ≡ None }
 {}
 
 /// The text and the side file that it leaves have the forms that are read.
 pub fn written_files_are_formed()
-    ensures text { (design : Design) (g : Graph) (cells : Cells) (h : Hardening) → MayBeHardened design g cells h
+    ensures text { (design : Design) (g : Graph) (cells : Cells) (h : Hardening)
+        → MayBeHardened design g cells h
         → (y : Layout) → EndsRouted (job_of design g cells h) y → IsFormedText y.config }
-    ensures side { (design : Design) (g : Graph) (cells : Cells) (h : Hardening) → MayBeHardened design g cells h
+    ensures side { (design : Design) (g : Graph) (cells : Cells) (h : Hardening)
+        → MayBeHardened design g cells h
         → (y : Layout) → EndsRouted (job_of design g cells h) y → IsFormedSide y.side }
 {}
 
@@ -65,7 +69,8 @@ pub fn what_is_written_is_hardened()
     ensures accepted { (files : Files) (inputs : Inputs) (a : Accepted files inputs) (h : Hardening)
         → (y : Layout) → EndsRouted (job_of a.design a.graph a.cells h) y
         → AreHardened a.design a.graph a.cells (config_text y.config) (side_text y.side) }
-    ensures any { (design : Design) (g : Graph) (cells : Cells) (h : Hardening) → MayBeHardened design g cells h
+    ensures any { (design : Design) (g : Graph) (cells : Cells) (h : Hardening)
+        → MayBeHardened design g cells h
         → (y : Layout) → EndsRouted (job_of design g cells h) y
         → AreHardened design g cells (config_text y.config) (side_text y.side) }
 {}
