@@ -41,8 +41,9 @@ impl FromJson for Name {
 pub fn list_as<T: FromJson>(alloc: Global, value: &Value) -> Result<List<T>, FormError>
     ensures { Reads (λ it. it) result (list_of T.value_in (view value.now)) }
 {
-    let mut list = List::new(alloc);
-    for element in elements(value).ok_or(FormError::Unfit)? {
+    let values = elements(value).ok_or(FormError::Unfit)?;
+    let mut list = List::from_vec(Vec::with_capacity(alloc, values.len())?);
+    for element in values {
         list.push(T::from_json(alloc, element)?)?;
     }
     Ok(list)

@@ -103,7 +103,7 @@ pub fn judged_elements<T: FromJson, J: Judge<T>>(
     ensures { OrMemory (λ it. it) list_fault result
         (elements_read name.now T.value_in (J.verdict judge.old) (map view values.now)) }
 {
-    let mut list = List::new(alloc);
+    let mut list = List::from_vec(Vec::with_capacity(alloc, values.len())?);
     for value in values {
         list.push(read_element::<T, J>(alloc, name, judge, &list, value)?)?;
     }

@@ -1,3 +1,4 @@
+pub mod Digests
 pub mod Sets
 pub mod Walks
 pub mod Again

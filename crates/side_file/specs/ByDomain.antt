@@ -4,10 +4,10 @@ use Rattle.std.specs.List.{flat_map}
 use Rattle.std.specs.BTreeSet.{BTreeSet}
 use Rattle.records.specs.Side.{Domain, D0, D1, D2, Placed, Triple}
 use Rattle.side_form.specs.Side.{entries_of_triple, is_in_domain}
-use Rattle.side_file.specs.Known.{Lent, has_name}
+use Rattle.side_file.specs.Known.{NameKey, has_name}
 use Rattle.side_file.specs.declared.domains.ByDomain.{ByDomain}
 
-abbrev pub names_of : ByDomain → Domain → BTreeSet Lent
+abbrev pub names_of : ByDomain → Domain → BTreeSet NameKey
 names_of sets D0 = sets.zero
 names_of sets D1 = sets.one
 names_of sets D2 = sets.two

@@ -1,3 +1,4 @@
+pub mod Digest
 pub mod Faults
 pub mod Known
 pub mod ByDomain

@@ -7,6 +7,7 @@ ghost use Rattle.side_form.specs.Side as side_form;
 ghost use Rattle.side_file.specs.Known.{KnowsDomain};
 ghost use Rattle.side_file.specs.ByDomain.{is_there, elsewhere_in, KnowsDomains};
 
+use crate::digest::digest;
 use crate::{Placed, Side, Triple};
 use rr_ids::{Domain, Name};
 use std::alloc::{AllocError, Global};
@@ -15,19 +16,23 @@ use std::collections::BTreeSet;
 /// The names of the cells in each domain.
 #[derive(Drop)]
 struct ByDomain<'a> {
-    zero: BTreeSet<&'a Name>,
-    one: BTreeSet<&'a Name>,
-    two: BTreeSet<&'a Name>,
+    zero: BTreeSet<(u64, &'a Name)>,
+    one: BTreeSet<(u64, &'a Name)>,
+    two: BTreeSet<(u64, &'a Name)>,
 }
 
 // The names of the cells in a domain.
-fn names_in(alloc: Global, cells: &[Placed], domain: Domain) -> Result<BTreeSet<&Name>, AllocError>
+fn names_in(
+    alloc: Global,
+    cells: &[Placed],
+    domain: Domain,
+) -> Result<BTreeSet<(u64, &Name)>, AllocError>
     ensures { IfOk result (λ set. KnowsDomain (domain_of domain) set cells.now) }
 {
-    let mut names = BTreeSet::<&Name>::new(alloc);
+    let mut names = BTreeSet::<(u64, &Name)>::new(alloc);
     for cell in cells {
         if cell.domain == domain {
-            names.insert(&cell.name)?;
+            names.insert((digest(&cell.name), &cell.name))?;
         }
     }
     Ok(names)
@@ -48,13 +53,13 @@ fn entry_elsewhere<'a>(sets: &ByDomain<'a>, triple: &'a Triple) -> Option<&'a Na
     ensures { option_copied result ≡ option_map (λ entry. entry.0)
         (find (λ entry. not (is_there sets.now entry)) (side_form.entries_of_triple triple.now)) }
 {
-    if !sets.zero.contains(&&triple.first) {
+    if !sets.zero.contains(&(digest(&triple.first), &triple.first)) {
         return Some(&triple.first);
     }
-    if !sets.one.contains(&&triple.second) {
+    if !sets.one.contains(&(digest(&triple.second), &triple.second)) {
         return Some(&triple.second);
     }
-    if !sets.two.contains(&&triple.third) {
+    if !sets.two.contains(&(digest(&triple.third), &triple.third)) {
         return Some(&triple.third);
     }
     None

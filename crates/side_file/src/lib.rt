@@ -3,6 +3,7 @@
 
 mod checks;
 mod copies;
+mod digest;
 mod domains;
 mod elements;
 mod errors;

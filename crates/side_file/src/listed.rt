@@ -6,28 +6,29 @@ ghost use Rattle.side_form.specs.Side as side_form;
 ghost use Rattle.side_file.specs.Known.{KnowsNames, has_name};
 
 use crate::Side;
+use crate::digest::digest;
 use crate::names::{cell_names, pad_entries, slice_entries, voter_names};
 use rr_ids::Name;
 use std::alloc::{AllocError, Global};
 use std::collections::BTreeSet;
 
 // The set of names.
-fn set_of<'a>(alloc: Global, names: &[&'a Name]) -> Result<BTreeSet<&'a Name>, AllocError>
+fn set_of<'a>(alloc: Global, names: &[&'a Name]) -> Result<BTreeSet<(u64, &'a Name)>, AllocError>
     ensures { IfOk result (λ set. KnowsNames set (map (λ n. n.now) names.now)) }
 {
-    let mut set = BTreeSet::<&Name>::new(alloc);
+    let mut set = BTreeSet::<(u64, &Name)>::new(alloc);
     for name in names {
-        set.insert(*name)?;
+        set.insert((digest(name), *name))?;
     }
     Ok(set)
 }
 
 // The first name that isn't in a set.
-fn first_missing<'a>(names: &[&'a Name], set: &BTreeSet<&'a Name>) -> Option<&'a Name>
+fn first_missing<'a>(names: &[&'a Name], set: &BTreeSet<(u64, &'a Name)>) -> Option<&'a Name>
     ensures { option_copied result ≡ find (λ name. not (has_name set.now name)) (map (λ n. n.now) names.now) }
 {
     for name in names {
-        if !set.contains(name) {
+        if !set.contains(&(digest(name), *name)) {
             return Some(*name);
         }
     }
@@ -43,6 +44,9 @@ fn first_outside<'a>(
     ensures { IfOk result (λ name. option_copied name
         ≡ side_form.first_outside (map (λ n. n.now) names.now) (map (λ n. n.now) listed.now)) }
 {
+    if names.is_empty() {
+        return Ok(None);
+    }
     Ok(first_missing(names, &set_of(alloc, listed)?))
 }
 

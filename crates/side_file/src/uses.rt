@@ -5,6 +5,7 @@ ghost use Rattle.std.specs.Option.{option_copied};
 ghost use Rattle.words.specs.Firsts.{first_fault};
 ghost use Rattle.side_form.specs.Side as side_form;
 
+use crate::digest::digest;
 use crate::names::entries;
 use crate::{Placed, Side, Voter};
 use rr_ids::Name;
@@ -36,12 +37,12 @@ fn second_cell<'a>(alloc: Global, cells: &[&'a Placed]) -> Result<Option<&'a Nam
     ensures { IfOk result (λ name. first_fault side_form.cell_fault (map (λ c. c.now) cells.now)
         ≡ option_map side_form.SideFault.DuplicateName (option_copied name)) }
 {
-    let mut names = BTreeSet::<&Name>::new(alloc);
-    let mut sites = BTreeSet::<(&Name, &Name)>::new(alloc);
+    let mut names = BTreeSet::<(u64, &Name)>::new(alloc);
+    let mut sites = BTreeSet::<(u64, (&Name, &Name))>::new(alloc);
     for cell in cells {
         let cell: &'a Placed = cell;
-        let is_new = names.insert(&cell.name)?;
-        let is_free = sites.insert((&cell.tile, &cell.kind))?;
+        let is_new = names.insert((digest(&cell.name), &cell.name))?;
+        let is_free = sites.insert((digest(&cell.tile), (&cell.tile, &cell.kind)))?;
         if !is_new || !is_free {
             return Ok(Some(&cell.name));
         }
@@ -54,9 +55,9 @@ fn second_name<'a>(alloc: Global, names: &[&'a Name]) -> Result<Option<&'a Name>
     ensures { IfOk result (λ name. first_fault side_form.entry_fault (map (λ n. n.now) names.now)
         ≡ option_map side_form.SideFault.DuplicateName (option_copied name)) }
 {
-    let mut known = BTreeSet::<&Name>::new(alloc);
+    let mut known = BTreeSet::<(u64, &Name)>::new(alloc);
     for name in names {
-        if !known.insert(*name)? {
+        if !known.insert((digest(name), *name))? {
             return Ok(Some(*name));
         }
     }

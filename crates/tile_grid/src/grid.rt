@@ -46,7 +46,7 @@ fn tiles_of(alloc: Global, file: &Map<String, Value>) -> Result<Vec<Tile>, GridE
     ensures { OrMemory (λ tiles. tiles.items) fault_of result
         (each_or_fault tile_of (members (members_view file.now.entries))) }
 {
-    let mut tiles = Vec::new(alloc);
+    let mut tiles = Vec::with_capacity(alloc, file.len())?;
     for (name, value) in file {
         tiles.push(read_tile(alloc, name.as_str(), value)?)?;
     }

@@ -5,7 +5,7 @@ use Rattle.json_values.proofs.members.judged_elements.Goals as goal
 
 pub loop-value-init : goal.loop-value-init
 loop-value-init g c =
-    rw c.new-list.ensures (record { found = refl; count = refl; rest = none_yet c.args.name.now g.T.FromJson.value_in (g.J.Judge.verdict c.args.judge.now) _ }, c.requires, refl)
+    rw (c.from_vec-list.ensures, c.in_ok-with_capacity.ensures.items) (record { found = refl; count = refl; rest = none_yet c.args.name.now g.T.FromJson.value_in (g.J.Judge.verdict c.args.judge.now) _ }, c.requires, refl)
 
 pub loop-value-preserved : goal.loop-value-preserved
 loop-value-preserved g c =
