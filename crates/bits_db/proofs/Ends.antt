@@ -1,5 +1,5 @@
 -- The connections as one is added.
-use Rattle.std.proofs.Common.{◌≡◌, List, [], ◌∷◌, ◌++◌, ◌&&◌, ◌||◌, true, false, cond, refl, sym, ap, ◌∙◌, Ordering, Less, Equal, Greater}
+use Rattle.std.proofs.Common.{◌≡◌, List, Bool, [], ◌∷◌, ◌++◌, ◌&&◌, ◌||◌, true, false, cond, refl, sym, ap, ◌∙◌, Ordering, Less, Equal, Greater}
 use Rattle.std.specs.BTreeSet.{BTreeSet, contains}
 use Rattle.std.specs.Cmp.Lexicographic.{slice_cmp, texts_ties}
 use Rattle.std.specs.Ordering.{nat_cmp, is_eq, ordering_then}
@@ -9,7 +9,12 @@ use Rattle.records.specs.Database.{Fixed}
 use Rattle.grammars.specs.BitsDb.{same_ends}
 use Rattle.grammars.specs.RowByRow.{has_connection, with_connection}
 use Rattle.bits_db.specs.KnownEnds.{Ends, ends_order, connection_of, KnowsEnds}
-use Rattle.bits_db.proofs.Names.{or_cond}
+
+or_cond : (a b : Bool) → cond b true a ≡ a || (b || false)
+or_cond true true = refl
+or_cond true false = refl
+or_cond false true = refl
+or_cond false false = refl
 
 -- a connection that is there isn't added
 pub known_connection : (cs : List Fixed) (c : Fixed) → has_connection cs c ≡ true → with_connection cs c ≡ cs

@@ -6,8 +6,7 @@ ghost use Rattle.grammars.specs.RowByRow.{with_connection};
 ghost use Rattle.bits_db.specs.Readings.{KnowsItsEnds};
 
 use super::Fixed;
-use super::row::name_of;
-use rr_ids::List;
+use rr_ids::{List, Name};
 use std::alloc::{AllocError, Global};
 use std::collections::BTreeSet;
 
@@ -54,8 +53,8 @@ impl<'a> Connections<'a> {
         if !self.ends.insert((sink, source))? {
             return Ok(());
         }
-        let sink = name_of(self.alloc, sink)?;
-        let source = name_of(self.alloc, source)?;
+        let sink = Name::of_bytes(self.alloc, sink)?;
+        let source = Name::of_bytes(self.alloc, source)?;
         self.connections.push(Fixed { sink, source })?;
         Ok(())
     }

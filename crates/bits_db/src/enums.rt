@@ -11,12 +11,11 @@ ghost use Rattle.bits_db.specs.Heads.{IsDefault};
 ghost use Rattle.bits_db.specs.Readings.{KnowsItsEnums};
 
 use super::pattern::MOST_BITS;
-use super::row::{name_of, option_of};
+use super::row::option_of;
 use super::{DbError, EnumOption, EnumSetting};
 use rr_ids::{Limit, List, Name};
 use std::alloc::{AllocError, Global};
-use std::collections::BTreeSet;
-use text_cut::Words;
+use text_cut::{KnownNames, Words};
 
 /// The enums that were read so far, of which the last may get more options. Contracts see the fields, as of
 /// muxes.
@@ -24,8 +23,8 @@ use text_cut::Words;
 pub(crate) struct Enums<'a> {
     alloc: Global,
     enums: List<EnumSetting>,
-    names: BTreeSet<&'a [u8]>,
-    values: BTreeSet<&'a [u8]>,
+    names: KnownNames<'a>,
+    values: KnownNames<'a>,
 }
 
 // The default of an enum, where it has one.
@@ -34,7 +33,7 @@ fn default_of(alloc: Global, default: Option<&[u8]>) -> Result<Option<Name>, All
     ensures { IfOk result (λ name. name ≡ option_map (λ d. d.now) default.entry) }
 {
     match default {
-        Some(name) => Ok(Some(name_of(alloc, name)?)),
+        Some(name) => Ok(Some(Name::of_bytes(alloc, name)?)),
         None => Ok(None),
     }
 }
@@ -48,8 +47,8 @@ impl<'a> Enums<'a> {
         Enums {
             alloc,
             enums: List::new(alloc),
-            names: BTreeSet::new(alloc),
-            values: BTreeSet::new(alloc),
+            names: KnownNames::new(alloc),
+            values: KnownNames::new(alloc),
         }
     }
 
@@ -78,7 +77,7 @@ impl<'a> Enums<'a> {
         if !self.names.insert(name)? {
             return Err(DbError::BadLine(number));
         }
-        let name = name_of(self.alloc, name)?;
+        let name = Name::of_bytes(self.alloc, name)?;
         let default = default_of(self.alloc, default)?;
         let options = List::new(self.alloc);
         self.enums.push(EnumSetting {

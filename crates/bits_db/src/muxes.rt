@@ -10,21 +10,20 @@ ghost use Rattle.bits_db.specs.Faults.{fault_of};
 ghost use Rattle.bits_db.specs.Readings.{KnowsItsMuxes};
 
 use super::pattern::MOST_BITS;
-use super::row::{arc_of, name_of};
+use super::row::arc_of;
 use super::{Arc, DbError, Mux};
-use rr_ids::{Limit, List};
+use rr_ids::{Limit, List, Name};
 use std::alloc::{AllocError, Global};
-use std::collections::BTreeSet;
-use text_cut::Words;
+use text_cut::{KnownNames, Words};
 
 /// The muxes that were read so far, of which the last may get more arcs. Contracts see the fields, since the
-/// sets are in step with the list only until an error, behind which the muxes are not used.
+/// known names are in step with the list only until an error, behind which the muxes are not used.
 #[derive(Drop)]
 pub(crate) struct Muxes<'a> {
     alloc: Global,
     muxes: List<Mux>,
-    sinks: BTreeSet<&'a [u8]>,
-    sources: BTreeSet<&'a [u8]>,
+    sinks: KnownNames<'a>,
+    sources: KnownNames<'a>,
 }
 
 // The arcs in just the room that they take.
@@ -56,8 +55,8 @@ impl<'a> Muxes<'a> {
         Muxes {
             alloc,
             muxes: List::new(alloc),
-            sinks: BTreeSet::new(alloc),
-            sources: BTreeSet::new(alloc),
+            sinks: KnownNames::new(alloc),
+            sources: KnownNames::new(alloc),
         }
     }
 
@@ -80,7 +79,7 @@ impl<'a> Muxes<'a> {
             return Err(DbError::BadLine(number));
         }
         fit_last(&mut self.muxes)?;
-        let name = name_of(self.alloc, sink)?;
+        let name = Name::of_bytes(self.alloc, sink)?;
         let arcs = List::new(self.alloc);
         self.muxes.push(Mux { sink: name, arcs })?;
         self.sources.clear();

@@ -1,7 +1,6 @@
 //! What the words of a row stand for.
 
-ghost use Rattle.std.specs.Prelude.{◌≡◌, ◌∷◌, ◌++◌, map, option_map, IfOk, true};
-ghost use Rattle.texts.specs.Names.{is_name};
+ghost use Rattle.std.specs.Prelude.{◌≡◌, ◌∷◌, ◌++◌, map, option_map, IfOk};
 ghost use Rattle.grammars.specs.BitsDb as db;
 ghost use Rattle.bits_db.specs.NamedBits.{named_bits_of};
 
@@ -98,17 +97,5 @@ pub(crate) fn option_of(
     match named_bits(alloc, value, bits)? {
         Some((value, bits)) => Ok(Some(EnumOption { value, bits })),
         None => Ok(None),
-    }
-}
-
-/// The name of bytes that are one.
-pub(crate) fn name_of(alloc: Global, bytes: &[u8]) -> Result<Name, AllocError>
-    requires { is_name bytes.now ≡ true }
-    ensures { IfOk result (λ name. name ≡ bytes.now) }
-{
-    match Name::new(alloc, bytes) {
-        Ok(name) => Ok(name),
-        Err(NameError::BadName) => unreachable!(),
-        Err(NameError::Memory) => Err(AllocError),
     }
 }

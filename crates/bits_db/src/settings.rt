@@ -10,19 +10,18 @@ ghost use Rattle.bits_db.specs.Faults.{fault_of};
 ghost use Rattle.bits_db.specs.Readings.{KnowsItsWords};
 
 use super::pattern::MOST_BITS;
-use super::row::{name_of, pattern_of};
+use super::row::pattern_of;
 use super::{DbError, WordSetting};
-use rr_ids::{Limit, List};
+use rr_ids::{Limit, List, Name};
 use std::alloc::Global;
-use std::collections::BTreeSet;
-use text_cut::Words;
+use text_cut::{KnownNames, Words};
 
 /// The words that were read so far, of which the last may get more bits. Contracts see the fields, as of muxes.
 #[derive(Drop)]
 pub(crate) struct WordSettings<'a> {
     alloc: Global,
     settings: List<WordSetting>,
-    names: BTreeSet<&'a [u8]>,
+    names: KnownNames<'a>,
 }
 
 impl<'a> WordSettings<'a> {
@@ -34,7 +33,7 @@ impl<'a> WordSettings<'a> {
         WordSettings {
             alloc,
             settings: List::new(alloc),
-            names: BTreeSet::new(alloc),
+            names: KnownNames::new(alloc),
         }
     }
 
@@ -57,7 +56,7 @@ impl<'a> WordSettings<'a> {
         if !self.names.insert(name)? {
             return Err(DbError::BadLine(number));
         }
-        let name = name_of(self.alloc, name)?;
+        let name = Name::of_bytes(self.alloc, name)?;
         let bits = List::new(self.alloc);
         self.settings.push(WordSetting { name, bits })?;
         Ok(())

@@ -1,21 +1,20 @@
 -- The tiles that are known, as sections are begun and get lines.
-use Rattle.std.proofs.Common.{◌≡◌, ℕ, List, [], ◌∷◌, ◌++◌, Bool, true, false, not, ◌||◌, cond, Ok, refl, sym, ap, ◌∙◌, Bor}
-use Rattle.std.specs.BTreeSet.{BTreeSet, contains}
-use Rattle.std.specs.Cmp.Lexicographic.{slice_cmp, texts_ties, nat_list_eq_equiv}
-use Rattle.std.specs.Ordering.{nat_cmp, is_eq}
+use Rattle.std.proofs.Common.{◌≡◌, ℕ, List, [], ◌∷◌, ◌++◌, Bool, true, false, not, ◌||◌, Ok, refl, sym, ap, ◌∙◌, Bor}
+use Rattle.std.specs.Cmp.Lexicographic.{nat_list_eq_equiv}
 use Rattle.std.specs.Str.{bytes_eq}
 use Rattle.std.proofs.lemmas.List.Folds.{list_any-append}
+use Rattle.text_cut.specs.Known.{knows}
 use Rattle.records.specs.Config.{TileText}
 use Rattle.config_grammar.specs.ConfigLines.{ConfigLine, DeviceLine, HeadLine, TileLine, ArcOf, WordOf, EnumOf, UnknownOf, OutsideLine}
 use Rattle.config_grammar.specs.ConfigText.{bad_if, is_none_yet, has_tile}
 use Rattle.config_text.specs.LineByLine.{with_last, line_behind, or_fault}
 use Rattle.config_text.specs.Known.{HoldsTiles, NoTileTwice, KnowsTiles}
 
-or_cond : (a b : Bool) → cond b true a ≡ a || (b || false)
-or_cond true true = refl
-or_cond true false = refl
-or_cond false true = refl
-or_cond false false = refl
+or_last : (a b : Bool) → a || b ≡ b || (a || false)
+or_last true true = refl
+or_last true false = refl
+or_last false true = refl
+or_last false false = refl
 
 pub first_false : (a b : Bool) → a || b ≡ false → a ≡ false
 first_false true b h = absurd (let no : ⊥ = cc in no)
@@ -30,17 +29,16 @@ both_false a b h k = ap (λ x. x || (b || false)) h ∙ ap (λ x. x || false) k
 
 -- ---- a section that is begun
 
--- the set with one more tile
-tiles_with_one : (ts : List TileText) (t : TileText) (old new : BTreeSet (Bor (List ℕ))) (key : Bor (List ℕ)) → t.tile ≡ key.now → HoldsTiles ts old
-    → ((q : Bor (List ℕ)) → contains (λ a b. slice_cmp nat_cmp a.now b.now) new q ≡ cond (is_eq (slice_cmp nat_cmp key.now q.now)) true (contains (λ a b. slice_cmp nat_cmp a.now b.now) old q))
+-- the known names with one more tile
+tiles_with_one : (ts : List TileText) (t : TileText) (old new : List (Bor (List ℕ))) (key : Bor (List ℕ)) → t.tile ≡ key.now → HoldsTiles ts old
+    → ((q : List ℕ) → knows new q ≡ bytes_eq key.now q || knows old q)
     → HoldsTiles (ts ++ t ∷ []) new
 tiles_with_one ts t old new key same held updated q =
     updated q
-    ∙ ap (cond (is_eq (slice_cmp nat_cmp key.now q.now)) true) (held q)
-    ∙ ap (λ b. cond b true (has_tile ts q.now)) (sym (texts_ties key.now q.now))
-    ∙ or_cond (has_tile ts q.now) (bytes_eq key.now q.now)
-    ∙ ap (λ n. has_tile ts q.now || (bytes_eq n q.now || false)) (sym same)
-    ∙ sym (list_any-append (λ (u : TileText). bytes_eq u.tile q.now) ts (t ∷ []))
+    ∙ ap (λ b. bytes_eq key.now q || b) (held q)
+    ∙ or_last (bytes_eq key.now q) (has_tile ts q)
+    ∙ ap (λ n. has_tile ts q || (bytes_eq n q || false)) (sym same)
+    ∙ sym (list_any-append (λ (u : TileText). bytes_eq u.tile q) ts (t ∷ []))
 
 once_more : (ts : List TileText) (t : TileText) → NoTileTwice ts → has_tile ts t.tile ≡ false → NoTileTwice (ts ++ t ∷ [])
 once_more [] t once new = (refl, tt)
@@ -51,13 +49,13 @@ once_more (u ∷ us) t once new = (
 )
 
 -- the section of a new tile is begun
-pub known_with_one : (ts : List TileText) (t : TileText) (old new : BTreeSet (Bor (List ℕ))) (key : Bor (List ℕ)) → t.tile ≡ key.now → KnowsTiles ts old
-    → contains (λ a b. slice_cmp nat_cmp a.now b.now) old key ≡ false
-    → ((q : Bor (List ℕ)) → contains (λ a b. slice_cmp nat_cmp a.now b.now) new q ≡ cond (is_eq (slice_cmp nat_cmp key.now q.now)) true (contains (λ a b. slice_cmp nat_cmp a.now b.now) old q))
+pub known_with_one : (ts : List TileText) (t : TileText) (old new : List (Bor (List ℕ))) (key : Bor (List ℕ)) → t.tile ≡ key.now → KnowsTiles ts old
+    → knows old key.now ≡ false
+    → ((q : List ℕ) → knows new q ≡ bytes_eq key.now q || knows old q)
     → KnowsTiles (ts ++ t ∷ []) new
 known_with_one ts t old new key same known fresh updated = record {
   names = tiles_with_one ts t old new key same known.names updated;
-  once = once_more ts t known.once (ap (has_tile ts) same ∙ sym (known.names key) ∙ fresh);
+  once = once_more ts t known.once (ap (has_tile ts) same ∙ sym (known.names key.now) ∙ fresh);
 }
 
 -- ---- a line that is added to the last section
@@ -101,9 +99,9 @@ once_with_last n line (t ∷ []) once = (refl, tt)
 once_with_last n line (t ∷ u ∷ us) once = (tiles_with_last n line (u ∷ us) t.tile ∙ once.0, once_with_last n line (u ∷ us) once.1)
 
 -- the tiles that are known stay known
-pub known_with_last : (n : ℕ) (line : ConfigLine) (ts : List TileText) (tiles : BTreeSet (Bor (List ℕ))) → KnowsTiles ts tiles → KnowsTiles (with_last (line_behind n line) ts) tiles
+pub known_with_last : (n : ℕ) (line : ConfigLine) (ts : List TileText) (tiles : List (Bor (List ℕ))) → KnowsTiles ts tiles → KnowsTiles (with_last (line_behind n line) ts) tiles
 known_with_last n line ts tiles known = record {
-  names = λ q. known.names q ∙ sym (tiles_with_last n line ts q.now);
+  names = λ q. known.names q ∙ sym (tiles_with_last n line ts q);
   once = once_with_last n line ts known.once;
 }
 

@@ -12,7 +12,7 @@ ghost use Rattle.text_cut.specs.Lent.{line_view};
 
 use super::order::sections_in_order;
 use super::says::{Saying, says};
-use super::sections::{Sections, name_of};
+use super::sections::Sections;
 use super::{Config, ConfigError, Head};
 use rr_ids::{List, Name, Text};
 use std::alloc::Global;
@@ -75,7 +75,7 @@ impl<'a> Reader<'a> {
         if self.device.is_some() {
             return Err(ConfigError::BadLine(number));
         }
-        self.device = Some(name_of(self.alloc, name)?);
+        self.device = Some(Name::of_bytes(self.alloc, name)?);
         Ok(())
     }
 

@@ -83,6 +83,13 @@ fn without_blanks(text: &[u8]) -> &[u8]
     before_blanks(behind_blanks(text))
 }
 
+// Whether the text still holds a carriage return.
+fn has_return(text: &[u8]) -> bool
+    ensures { result ≡ list_any grammar.is_return text.now }
+{
+    text.iter().any(|b| *b == b'\r')
+}
+
 // Whether the bytes are digits of bits.
 fn are_bit_digits(digits: &[u8]) -> bool
     ensures { result ≡ list_all grammar.is_bit_digit digits.now }
@@ -217,7 +224,7 @@ pub(crate) fn says<'a>(line: &Line<'a>) -> Option<Saying<'a>>
     ensures names { IfSome result AreNames }
 {
     let text = line.text;
-    if text.contains(&b'\r') {
+    if has_return(text) {
         return None;
     }
     let mut words = line.words();

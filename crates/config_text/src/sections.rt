@@ -13,32 +13,20 @@ ghost use Rattle.config_text.specs.Known.{KnowsItsTiles, NoTileTwice};
 
 use super::says::InTile;
 use super::{ArcLine, ConfigError, EnumLine, TileText, UnknownLine, WordLine};
-use rr_ids::{Limit, List, Name, NameError};
+use rr_ids::{Limit, List, Name};
 use std::alloc::{AllocError, Global};
-use std::collections::BTreeSet;
+use text_cut::KnownNames;
 
 // The most sections.
 const MOST_SECTIONS: usize = 65_536;
 
-/// The sections that were read so far, of which the last may get more lines. Contracts see the fields, since the set is
-/// in step with the list only until an error, behind which the sections are not used.
+/// The sections that were read so far, of which the last may get more lines. Contracts see the fields, since the known
+/// tiles are in step with the list only until an error, behind which the sections are not used.
 #[derive(Drop)]
 pub(crate) struct Sections<'a> {
     alloc: Global,
     sections: List<TileText>,
-    tiles: BTreeSet<&'a [u8]>,
-}
-
-/// The name of bytes that are one.
-pub(crate) fn name_of(alloc: Global, bytes: &[u8]) -> Result<Name, AllocError>
-    requires { is_name bytes.now ≡ true }
-    ensures { IfOk result (λ name. name ≡ bytes.now) }
-{
-    match Name::new(alloc, bytes) {
-        Ok(name) => Ok(name),
-        Err(NameError::BadName) => unreachable!(),
-        Err(NameError::Memory) => Err(AllocError),
-    }
+    tiles: KnownNames<'a>,
 }
 
 // Whether each digit is a one.
@@ -63,7 +51,7 @@ fn empty_section(alloc: Global, number: u32, tile: &[u8]) -> Result<TileText, Al
     ensures { IfOk result (λ section. section ≡ no_lines number tile.now) }
 {
     Ok(TileText {
-        tile: name_of(alloc, tile)?,
+        tile: Name::of_bytes(alloc, tile)?,
         line: number,
         arcs: List::new(alloc),
         words: List::new(alloc),
@@ -84,8 +72,8 @@ fn add_line_to(
 {
     match line {
         InTile::Arc(sink, source) => {
-            let sink = name_of(alloc, sink)?;
-            let source = name_of(alloc, source)?;
+            let sink = Name::of_bytes(alloc, sink)?;
+            let source = Name::of_bytes(alloc, source)?;
             section.arcs.push(ArcLine {
                 sink,
                 source,
@@ -93,7 +81,7 @@ fn add_line_to(
             })
         }
         InTile::Word(name, digits) => {
-            let name = name_of(alloc, name)?;
+            let name = Name::of_bytes(alloc, name)?;
             let bits = bits_of(alloc, digits)?;
             section.words.push(WordLine {
                 name,
@@ -102,8 +90,8 @@ fn add_line_to(
             })
         }
         InTile::Enum(name, value) => {
-            let name = name_of(alloc, name)?;
-            let value = name_of(alloc, value)?;
+            let name = Name::of_bytes(alloc, name)?;
+            let value = Name::of_bytes(alloc, value)?;
             section.enums.push(EnumLine {
                 name,
                 value,
@@ -127,7 +115,7 @@ impl<'a> Sections<'a> {
         Sections {
             alloc,
             sections: List::new(alloc),
-            tiles: BTreeSet::new(alloc),
+            tiles: KnownNames::new(alloc),
         }
     }
 

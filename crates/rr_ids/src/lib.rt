@@ -8,6 +8,7 @@ mod limits;
 mod list;
 mod names;
 mod rules;
+mod stored;
 mod text;
 mod typed;
 

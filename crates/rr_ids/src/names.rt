@@ -4,31 +4,32 @@ ghost use Rattle.std.specs.Prelude.{◌≡◌, true, false, IfOk, IsErrOf};
 ghost use Rattle.std.specs.List.{list_all};
 ghost use Rattle.texts.specs.Names.{is_name as name_test, is_name_byte};
 
-use smallvec::SmallVec;
+use crate::stored::Stored;
 use std::alloc::{AllocError, Global};
 use std::cmp::Ordering;
 use std::marker::Model;
 use thiserror::Error;
 
 /// Bytes that name a wire, a setting, a tile or a cell: 1 to 255 bytes, each from 0x21 to 0x7E. Names are
-/// ordered by their bytes. A name of up to 24 bytes stands in the value itself, a longer one in one allocation.
+/// ordered by their bytes. A name of up to 23 bytes stands in the value itself, a longer one in one allocation.
 #[derive(Debug, Drop)]
 pub struct Name {
-    bytes: SmallVec<u8, 24>,
+    bytes: Stored,
 }
 
 impl Model for Name {
     ghost use Rattle.std.specs.Prelude.{◌≡◌, List, ℕ, true};
     ghost use Rattle.std.specs.Coded.{coded_list, coded_ℕ};
     ghost use Rattle.texts.specs.Names.{is_name};
+    ghost use Rattle.rr_ids.specs.Stored.{stored_bytes};
 
     ghost Value = { List ℕ };
 
     ghost coded = { coded_list coded_ℕ };
 
-    ghost view = { λ n. n.bytes.items };
+    ghost view = { λ n. stored_bytes n.bytes };
 
-    ghost invariant = { λ n. is_name n.bytes.items ≡ true };
+    ghost invariant = { λ n. is_name (stored_bytes n.bytes) ≡ true };
 }
 
 /// Why bytes don't make a name.
@@ -79,7 +80,15 @@ impl Name {
         if !is_name(bytes) {
             return Err(NameError::BadName);
         }
-        let bytes = SmallVec::from_slice(alloc, bytes)?;
+        Ok(Name::of_bytes(alloc, bytes)?)
+    }
+
+    /// The name of bytes that are one.
+    pub fn of_bytes(alloc: Global, bytes: &[u8]) -> Result<Name, AllocError>
+        requires { name_test bytes.now ≡ true }
+        ensures { IfOk result (λ name. name ≡ bytes.now) }
+    {
+        let bytes = Stored::new(alloc, bytes)?;
         Ok(Name { bytes })
     }
 
@@ -88,14 +97,14 @@ impl Name {
         ensures same { result.now ≡ self.now }
         ensures name { name_test self.now ≡ true }
     {
-        self.bytes.as_slice()
+        self.bytes.bytes()
     }
 
     /// An equal name.
     pub fn copy(&self) -> Result<Name, AllocError>
         ensures { IfOk result (λ name. name ≡ self.now) }
     {
-        let bytes = SmallVec::from_slice(*self.bytes.allocator(), self.bytes.as_slice())?;
+        let bytes = self.bytes.copy()?;
         Ok(Name { bytes })
     }
 }
@@ -110,7 +119,7 @@ impl PartialEq for Name {
     ghost laws = { Cmp.partial_equiv_from_equiv nat_list_eq_equiv };
 
     fn eq(&self, other: &Self) -> bool {
-        self.bytes.as_slice() == other.bytes.as_slice()
+        self.bytes.bytes() == other.bytes.bytes()
     }
 }
 
@@ -148,6 +157,6 @@ impl Ord for Name {
     ghost matches_eq = { texts_ties };
 
     fn cmp(&self, other: &Self) -> Ordering {
-        self.bytes.as_slice().cmp(other.bytes.as_slice())
+        self.bytes.bytes().cmp(other.bytes.bytes())
     }
 }

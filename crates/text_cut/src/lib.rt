@@ -17,6 +17,7 @@ ghost use Rattle.texts.specs.Lines.{lines_of};
 
 use memchr::memchr;
 
+mod known;
 mod line;
 mod number;
 mod pattern;
@@ -24,6 +25,7 @@ mod pattern;
 mod tests;
 mod word;
 
+pub use known::KnownNames;
 pub use line::{Line, Lines};
 pub use number::decimal;
 pub use pattern::{PatternBit, pattern_bit};

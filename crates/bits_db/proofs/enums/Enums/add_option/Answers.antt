@@ -34,12 +34,12 @@ returns-clause-known c =
     ∙ ap (λ (m : EnumSetting). front ++ change m ∷ []) c.setting.view_is in
     let all : c.push-2.new.self ≡ with_option enums (Some option) = new ∙ sym (with_last_pushed change front setting) ∙ ap (λ es. with_option es (Some option)) (sym c.in-Some.ensures) in
     record {
-      names = λ q. c.requires.known.names q ∙ sym (ap (λ es. has_enum es q.now) all ∙ names_with_last (λ (e : EnumSetting). e.name) change (λ m. refl) enums q.now);
+      names = λ q. c.requires.known.names q ∙ sym (ap (λ es. has_enum es q) all ∙ names_with_last (λ (e : EnumSetting). e.name) change (λ m. refl) enums q);
       entries = λ q.
           entries_with_one (λ (o : EnumOption). o.value) (λ (e : EnumSetting). e.options) front setting (change setting) option c.args.self.now.values c.insert.new.self c.args.value c.requires.value refl
-          (λ p. c.requires.known.entries p ∙ ap (λ es. has_value (last_options es) p.now) c.in-Some.ensures)
-          c.in_ok-insert.ensures.updates.0 q
-          ∙ ap (λ es. has_value (last_options es) q.now) (sym new);
+          (λ p. c.requires.known.entries p ∙ ap (λ es. has_value (last_options es) p) c.in-Some.ensures)
+          c.in_ok-insert.ensures.known q
+          ∙ ap (λ es. has_value (last_options es) q) (sym new);
     }
 
 pub returns-clause-enums : goal.returns-clause-enums

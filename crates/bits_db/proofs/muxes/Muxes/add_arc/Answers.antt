@@ -34,12 +34,12 @@ returns-clause-known c =
     ∙ ap (λ (m : Mux). front ++ change m ∷ []) c.mux.view_is in
     let all : c.push-2.new.self ≡ with_arc muxes (Some arc) = new ∙ sym (with_last_pushed change front mux) ∙ ap (λ ms. with_arc ms (Some arc)) (sym c.in-Some.ensures) in
     record {
-      names = λ q. c.requires.known.names q ∙ sym (ap (λ ms. has_sink ms q.now) all ∙ names_with_last (λ (m : Mux). m.sink) change (λ m. refl) muxes q.now);
+      names = λ q. c.requires.known.names q ∙ sym (ap (λ ms. has_sink ms q) all ∙ names_with_last (λ (m : Mux). m.sink) change (λ m. refl) muxes q);
       entries = λ q.
           entries_with_one (λ (a : Arc). a.source) (λ (m : Mux). m.arcs) front mux (change mux) arc c.args.self.now.sources c.insert.new.self c.args.source c.requires.source refl
-          (λ p. c.requires.known.entries p ∙ ap (λ ms. has_source (last_arcs ms) p.now) c.in-Some.ensures)
-          c.in_ok-insert.ensures.updates.0 q
-          ∙ ap (λ ms. has_source (last_arcs ms) q.now) (sym new);
+          (λ p. c.requires.known.entries p ∙ ap (λ ms. has_source (last_arcs ms) p) c.in-Some.ensures)
+          c.in_ok-insert.ensures.known q
+          ∙ ap (λ ms. has_source (last_arcs ms) q) (sym new);
     }
 
 pub returns-clause-muxes : goal.returns-clause-muxes

@@ -9,6 +9,6 @@ returns-clause-known c =
     let mux : Mux = record { sink = c.in_ok-name.name; arcs = c.new-arcs.result } in
     let stored : c.push.new.self ≡ muxes ++ mux ∷ [] = c.in_ok-push.ensures.ok ∙ ap (λ (ms : List Mux). ms ++ mux ∷ []) c.in_ok-fit_last.ensures in
     record {
-      names = rw stored (names_with_one (λ (m : Mux). m.sink) muxes mux c.args.self.now.sinks c.insert.new.self c.args.sink c.in_ok-name.ensures c.requires.known.names c.in_ok-insert.ensures.updates.0);
-      entries = rw stored (no_entry_at_head (λ (a : Arc). a.source) (λ (m : Mux). m.arcs) muxes mux c.clear.new.self c.clear.ensures.empty c.new-arcs.ensures);
+      names = rw stored (names_with_one (λ (m : Mux). m.sink) muxes mux c.args.self.now.sinks c.insert.new.self c.args.sink c.in_ok-name.ensures c.requires.known.names c.in_ok-insert.ensures.known);
+      entries = rw stored (no_entry_at_head (λ (a : Arc). a.source) (λ (m : Mux). m.arcs) muxes mux c.clear.new.self c.clear.ensures c.new-arcs.ensures);
     }

@@ -10,4 +10,4 @@ returns-clause-known c =
     let section = no_lines c.args.number c.args.tile.now in
     let pushed : c.push.new.self ≡ sections ++ section ∷ [] = c.in_ok-push.ensures.ok ∙ ap (λ (t : TileText). sections ++ t ∷ []) c.in_ok-empty_section.ensures in
     let fresh = not_true _ (sym c.in_ok-insert.ensures.added ∙ c.if-not-branch.false) in
-    rw pushed (known_with_one sections section c.args.self.now.tiles c.insert.new.self c.args.tile refl c.requires.known fresh c.in_ok-insert.ensures.updates.0)
+    rw pushed (known_with_one sections section c.args.self.now.tiles c.insert.new.self c.args.tile refl c.requires.known fresh c.in_ok-insert.ensures.known)
