@@ -2,3 +2,4 @@ pub mod LentNames
 pub mod Parts
 pub mod Kept
 pub mod Codes
+pub mod Slots

@@ -5,15 +5,15 @@ ghost use Rattle.std.specs.Prelude.{◌≤ℤ◌, pos, negsuc};
 use crate::distance::Moved;
 
 /// Rows and columns from a tile's place, and a base.
-#[derive(Clone, Copy)]
-pub(crate) struct Relative<'a> {
-    pub(crate) rows: i32,
-    pub(crate) columns: i32,
-    pub(crate) base: &'a [u8],
-    pub(crate) ghost low_rows: { negsuc 254 ≤ℤ rows },
-    pub(crate) ghost high_rows: { rows ≤ℤ pos 255 },
-    pub(crate) ghost low_columns: { negsuc 254 ≤ℤ columns },
-    pub(crate) ghost high_columns: { columns ≤ℤ pos 255 },
+#[derive(Clone, Copy, Debug)]
+pub struct Relative<'a> {
+    pub rows: i32,
+    pub columns: i32,
+    pub base: &'a [u8],
+    pub ghost low_rows: { negsuc 254 ≤ℤ rows },
+    pub ghost high_rows: { rows ≤ℤ pos 255 },
+    pub ghost low_columns: { negsuc 254 ≤ℤ columns },
+    pub ghost high_columns: { columns ≤ℤ pos 255 },
 }
 
 impl<'a> Relative<'a> {

@@ -1,7 +1,7 @@
 ghost use Rattle.wire_names.specs.Kept.{CanBeKept};
 ghost use Rattle.wire_names.specs.LentNames.{wire_name};
 
-use crate::{Names, WireName, place};
+use crate::{LentRules, Names, WireName, place};
 use rr_ids::{Id, List, Name, NameError, Rules, WireId};
 use std::alloc::Global;
 use std::test::Fail;
@@ -38,6 +38,7 @@ fn names_stand_for_wires(rt: HostRuntime) -> Result<(), Fail> {
         other_chips: one_name(alloc, b"25K_")?,
         wide: one_name(alloc, b"G_")?,
     };
+    let lent = LentRules::new(alloc, &rules)?;
     let rows: [(u8, u8, &[u8], WireName<'_>); 15] = [
         (0, 3, b"N1W2_X", local(-1, 1, b"X")),
         (4, 4, b"25K_X", WireName::Ignored),
@@ -57,6 +58,7 @@ fn names_stand_for_wires(rt: HostRuntime) -> Result<(), Fail> {
     ];
     for (row, col, name, wire) in rows {
         assert_eq!(rt; place(row, col, name, &rules), wire);
+        assert_eq!(rt; lent.slot(name).at(row, col), wire);
     }
     Ok(())
 }

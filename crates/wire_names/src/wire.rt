@@ -2,12 +2,12 @@
 
 ghost use Rattle.std.specs.Prelude.{◌≡◌, ◌<◌, ◌≤◌, length};
 ghost use Rattle.fabric.specs.WireNames.{IsWireName};
-ghost use Rattle.fabric.specs.WireOfName.{begins_with_one as begins_with_one_of, without_chip as without_chip_of, wire_of_relative as wire_at_of, wire_of_name};
+ghost use Rattle.fabric.specs.WireOfName.{begins_with_one as begins_with_one_of, without_chip as without_chip_of, wire_of_name};
 ghost use Rattle.wire_names.specs.Kept.{IsShortOrIgnored};
 ghost use Rattle.wire_names.specs.LentNames.{wire_name};
-ghost use Rattle.wire_names.specs.Parts.{relative_view};
 
 use crate::relative::Relative;
+use crate::slot::Slot;
 use fabric_laws::each_name_has_one_wire;
 use rr_ids::{List, Name, Rules};
 
@@ -22,7 +22,8 @@ pub enum WireName<'a> {
     Ignored,
 }
 
-/// What a name stands for at a tile's place; takes no memory.
+/// What a name stands for at a tile's place; takes no memory. It passes over the prefixes: for many names, or prefixes
+/// of a file, `LentRules` looks them up.
 pub fn place<'a>(row: u8, col: u8, name: &'a [u8], rules: &Rules) -> WireName<'a>
     ensures computed { wire_name result ≡ wire_of_name (row, col) name.now rules.now }
     ensures stands { IsWireName (row, col) name.now rules.now (wire_name result) }
@@ -35,7 +36,8 @@ pub fn place<'a>(row: u8, col: u8, name: &'a [u8], rules: &Rules) -> WireName<'a
         return WireName::Ignored;
     }
     let relative = Relative::read(without_chip(&rules.chip_prefix, name));
-    wire_at(row, col, rules, relative)
+    let is_wide = begins_with_one(&rules.wide, relative.base);
+    Slot::of(relative, is_wide).at(row, col)
 }
 
 // Whether a name begins with one of the prefixes.
@@ -48,8 +50,8 @@ fn begins_with_one(prefixes: &List<Name>, name: &[u8]) -> bool
         .any(|prefix| name.starts_with(prefix.bytes()))
 }
 
-// The name without the chip's prefix, where more stands behind it.
-fn without_chip<'a>(chip: &Option<Name>, name: &'a [u8]) -> &'a [u8]
+/// The name without the chip's prefix, where more stands behind it.
+pub(crate) fn without_chip<'a>(chip: &Option<Name>, name: &'a [u8]) -> &'a [u8]
     ensures rest { result.now ≡ without_chip_of chip.now name.now }
     ensures some { 0 < length name.now → 0 < length result.now }
     ensures shorter { length result.now ≤ length name.now }
@@ -63,21 +65,4 @@ fn without_chip<'a>(chip: &Option<Name>, name: &'a [u8]) -> &'a [u8]
         return rest;
     }
     name
-}
-
-// The wire of a base at a place that is moved.
-fn wire_at<'a>(row: u8, col: u8, rules: &Rules, relative: Relative<'a>) -> WireName<'a>
-    ensures wire { wire_name result ≡ wire_at_of (row, col) rules.now (relative_view relative.entry) }
-    ensures short { 0 < length relative.entry.base.now → length relative.entry.base.now ≤ 255
-        → IsShortOrIgnored (wire_name result) }
-{
-    let base = relative.base;
-    if begins_with_one(&rules.wide, base) {
-        return WireName::Wide { base };
-    }
-    WireName::Local {
-        row: i32::from(row) + relative.rows,
-        col: i32::from(col) + relative.columns,
-        base,
-    }
 }
