@@ -29,3 +29,11 @@ pub record NoneRose (faults : Faults) : Type 0 where
   pub reads : HasRisen faults.reads → ⊥
   pub writes : HasRisen faults.writes → ⊥
   pub prints : HasRisen faults.prints → ⊥
+
+-- the counts that files and an output keep, before a run and when it ends
+abbrev pub faults_between : {X Y : Type 0} → (X → ℕ) → (X → ℕ) → (Y → ℕ) → X → X → Y → Y → Faults
+faults_between reads writes prints files files_now out out_now = record {
+  reads = count (reads files) (reads files_now);
+  writes = count (writes files) (writes files_now);
+  prints = count (prints out) (prints out_now);
+}

@@ -1,0 +1,5 @@
+pub mod Untouched
+pub mod Statuses
+pub mod Refused
+pub mod Reading
+pub mod Worked
