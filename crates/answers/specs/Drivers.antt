@@ -3,9 +3,9 @@
 use Rattle.std.specs.Prelude.{ℕ, List, [], ◌∷◌, ◌++◌, map, codes}
 use Rattle.std.specs.List.{flat_map}
 use Rattle.patterns.specs.Bits.{DeviceBit, Bits}
+use Rattle.texts.specs.Printing.{spaced, line_feed}
 use Rattle.records.specs.Database.{Mux}
 use Rattle.fabric.specs.Chosen.{chosen}
-use Rattle.answers.specs.Texts.{spaced, line_feed}
 
 -- tile bits are taken as device bits
 abbrev pub no_origin : DeviceBit

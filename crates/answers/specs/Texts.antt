@@ -1,17 +1,10 @@
 -- The texts that the program prints, as concatenations; each line ends with one line feed. (Our own.)
 use Rattle.std.specs.Prelude.{ℕ, List, [], ◌∷◌, ◌++◌, codes}
-use Rattle.std.specs.List.{flat_map}
 use Rattle.std.specs.Fmt.{decimal}
+use Rattle.texts.specs.Printing.{spaced, line_feed}
 use Rattle.fabric.specs.Wires.{wire_text}
 use Rattle.answers.specs.Parts.{part_text, pin_text}
 use Rattle.answers.specs.Refusals.{Refusal, Missing, TooLong, BadLine, OutsideBlock, NoDevice, TooLarge, NotJson, BadShape, DuplicateName, UnknownName, Unpaired, WrongDomain, OverlapShape, UnknownTile, NoPlace, UnknownSink, UnknownSource, UnknownSetting, UnknownValue, WordLength, OutsideTile, ArcDiffers, Contested, UnknownSite, ShapeDiffers, Unmodelled, UnnamedPad, UnnamedSource, Loop, OpenPin, ClockAsData, NotClocked, ForeignRead, NotMasking, CopiesDiffer, NoOutputs, refusal_number, refusal_name}
-
-abbrev pub line_feed : List ℕ
-line_feed = 10 ∷ []
-
--- words with a space before each
-abbrev pub spaced : List (List ℕ) → List ℕ
-spaced words = flat_map (λ word. 32 ∷ word) words
 
 -- the arguments of a refusal as printed
 abbrev pub refusal_arguments : Refusal → List (List ℕ)

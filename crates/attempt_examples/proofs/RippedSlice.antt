@@ -9,6 +9,7 @@ use Rattle.words.specs.Members.{In}
 use Rattle.patterns.specs.Bits.{DeviceBit}
 use Rattle.records.specs.Config.{ArcLine}
 use Rattle.records.specs.Side.{Domain, D0}
+use Rattle.records.specs.Ripping.{RipAll}
 use Rattle.links.specs.Links.{here, Below, Feeds}
 use Rattle.links.proofs.Below.{below_complete, has_in}
 use Rattle.fabric.specs.Graph.{GraphMux, GraphArc}
@@ -29,12 +30,12 @@ use Rattle.repair.specs.Usable.{IsUsable}
 use Rattle.repair.specs.Routes.{wire_weight, roads_for, InTree, IsTheRoute}
 use Rattle.repair.specs.Lines.{no_lines, keeps, drops, no_texts, next_text}
 use Rattle.repair.specs.Layouts.{configured, turn_over}
-use Rattle.repair.specs.Nets.{RipAll, IsRipped}
+use Rattle.repair.specs.Nets.{IsRipped}
 use Rattle.repair.specs.Ripping.{IsRippedLine, IsRest}
 use Rattle.attempts.specs.Wires.{connection_cmp}
 use Rattle.attempts.specs.Turns.{Complete, ComesOut}
 use Rattle.attempts.specs.Jobs.{read_of, IsRippedFirst, IsRippedPart}
-use Rattle.attempts.specs.Starts.{IsRippedAtStart, IsStart}
+use Rattle.attempts.specs.Starts.{IsRippedAtStart, IsFirstState}
 use Rattle.attempts.specs.Attempts.{AttemptComplete, Routed, completes, Ended, IsAnswer, ended}
 use Rattle.attempt_examples.specs.TwoTiles.{two_tiles, graph, line, design_text, ripped_text, first_tile, clock_tile, design, ripped_job, ripped_layout, ripped_state, clock, to_data, to_table}
 use Rattle.attempt_examples.proofs.Tests.{feed_is, plain, clear}
@@ -115,7 +116,7 @@ in_order x r = elim (read_in x r.0) [
   ]
 ]
 
-starts : IsStart ripped_job ripped_state
+starts : IsFirstState ripped_job ripped_state
 starts = record {
   graph = refl;
   text = rest;

@@ -11,7 +11,8 @@ use Rattle.patterns.specs.Fits.{has_plain_bit}
 use Rattle.records.specs.Config.{Config}
 use Rattle.links.specs.Links.{Routing, Feeds}
 use Rattle.links.proofs.Members.{in_map, of_map, in_flat_map, of_flat_map}
-use Rattle.links.proofs.Below.{below, below_complete, has, has_in}
+use Rattle.links.proofs.Below.{below_complete, has_in}
+use Rattle.links.specs.Below.{below, has}
 use Rattle.fabric.specs.Graph.{GraphArc, Graph}
 use Rattle.fabric.specs.MuxBits.{bits_named}
 use Rattle.fabric_laws.proofs.Members.{in_filter_from, in_filter_to, all_from, any_from, any_to, imp_from, is_false}

@@ -7,7 +7,8 @@ use Rattle.std.specs.declared.cmp.Ordering.TheVariants.{Less, Greater}
 use Rattle.words.specs.Members.{In}
 use Rattle.records.specs.Side.{D0, Placed}
 use Rattle.links.specs.Links.{IsClean, Feeds}
-use Rattle.links.proofs.Below.{has, in_has}
+use Rattle.links.proofs.Below.{in_has}
+use Rattle.links.specs.Below.{has}
 use Rattle.fabric.specs.Graph.{GraphArc}
 use Rattle.fabric.specs.InOrder.{IsRising}
 use Rattle.fabric_laws.proofs.Graphs.{has_graph, some_same}

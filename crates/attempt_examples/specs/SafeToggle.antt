@@ -1,7 +1,7 @@
 -- The toggle, given to a router as a design of which only what bad bits reach is ripped.
+use Rattle.records.specs.Ripping.{RipUnsafe}
 use Rattle.fabric.specs.Graph.{Graph}
 use Rattle.repair.specs.Layouts.{Layout}
-use Rattle.repair.specs.Nets.{RipUnsafe}
 use Rattle.fabric_laws.specs.PlainGraph.{graph_of}
 use Rattle.attempts.specs.Jobs.{Job}
 use Rattle.mini.specs.MiniA.{mini_a}

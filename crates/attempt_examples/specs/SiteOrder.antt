@@ -9,7 +9,7 @@ use Rattle.records.specs.Profile.{SliceKind}
 use Rattle.records.specs.Side.{D2, Side}
 use Rattle.fabric.specs.Device.{Device}
 use Rattle.fabric.specs.Graph.{Graph}
-use Rattle.fabric_laws.specs.Insertion.{in_order}
+use Rattle.fabric_laws.specs.Insertion.{sorted_once}
 use Rattle.cells.specs.Sites.{Site, site_in, settings_at}
 use Rattle.cells.specs.Shapes.{equal_shape}
 use Rattle.attempts.specs.Candidates.{site_cmp}
@@ -51,7 +51,7 @@ same_site a b = bytes_eq a.tile.name b.tile.name && bytes_eq a.kind.name b.kind.
 
 -- the others of equal shape, in order from a site
 abbrev pub sites_from : Graph → Site SliceKind → List (Site SliceKind)
-sites_from g from = in_order (site_cmp from) (filter (λ s. equal_shape (settings_at g from) from.kind (settings_at g s) s.kind && not (same_site from s)) (slice_sites g))
+sites_from g from = sorted_once (site_cmp from) (filter (λ s. equal_shape (settings_at g from) from.kind (settings_at g s) s.kind && not (same_site from s)) (slice_sites g))
 
 abbrev pub stands_at : List ℕ → Graph → List (Site SliceKind)
 stands_at tile g = filter (λ s. bytes_eq s.tile.name tile) (slice_sites g)

@@ -7,6 +7,7 @@ use Rattle.records.specs.Database.{Mux, TileDb}
 use Rattle.records.specs.Grid.{Tile}
 use Rattle.records.specs.Profile.{TakeWire, TakeZero, TakeOne, TakeOff, TakeIn, Take, Choice, SliceKind}
 use Rattle.records.specs.Side.{D0, Side}
+use Rattle.records.specs.Ripping.{RipUnsafe, RipAll}
 use Rattle.fabric.specs.Device.{Device}
 use Rattle.fabric.specs.Graph.{Graph}
 use Rattle.fabric.specs.Image.{image_of}
@@ -17,7 +18,6 @@ use Rattle.circuit.specs.Circuits.{Connection}
 use Rattle.cells.specs.CellsOf.{slice_cells, pad_cells}
 use Rattle.cells.specs.Sites.{Site}
 use Rattle.repair.specs.Layouts.{Layout}
-use Rattle.repair.specs.Nets.{RipUnsafe, RipAll}
 use Rattle.attempts.specs.Jobs.{Job, State}
 use Rattle.attempts.specs.Candidates.{Step}
 

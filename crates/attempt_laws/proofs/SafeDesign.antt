@@ -2,15 +2,16 @@
 -- leaves the design as it is.
 use Rattle.std.proofs.Common.{◌≡◌, ℕ, List, [], ◌∷◌, refl, subst, inl, inr}
 use Rattle.records.specs.Config.{ArcLine, TileText, Config}
+use Rattle.records.specs.Ripping.{Rip, RipUnsafe}
 use Rattle.fabric.specs.Device.{Device}
 use Rattle.circuit.specs.Parts.{PartRef}
 use Rattle.upset.specs.Configured.{Configured}
 use Rattle.upset.specs.Safe.{IsSafe}
 use Rattle.repair.specs.Lines.{WithoutLines, no_lines, keeps, TextsWithout, no_texts, next_text, WithoutArcLines}
-use Rattle.repair.specs.Nets.{Rip, RipUnsafe, IsReached, IsChosenToRip, IsRipped}
+use Rattle.repair.specs.Nets.{IsReached, IsChosenToRip, IsRipped}
 use Rattle.repair.specs.Layouts.{configured}
 use Rattle.attempts.specs.Jobs.{Job, State, IsRippedPart}
-use Rattle.attempts.specs.Starts.{IsStart}
+use Rattle.attempts.specs.Starts.{IsFirstState}
 use Rattle.attempts.specs.Attempts.{AttemptComplete, Routed, completes, Ended, IsAnswer, ended}
 
 -- where nothing is dropped a text stays
@@ -41,7 +42,7 @@ module _ (job : Job) (unsafe : job.rip ≡ RipUnsafe) (safe : IsSafe (configured
     | inr later ↦ absurd later.1.0
   ]
 
-  starts : IsStart job first_state
+  starts : IsFirstState job first_state
   starts = record {
     graph = refl;
     text = whole_text _ (λ tile line dropped. none_ripped job.rip job.device (configured job.design) dropped.net unsafe safe dropped.ripped) job.design.config;

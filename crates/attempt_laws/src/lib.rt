@@ -5,19 +5,19 @@
 ghost use Rattle.attempts.specs.Attempts.{Answer, AttemptComplete, Ended, IsAnswer, Routed};
 ghost use Rattle.attempts.specs.Candidates.{IsFirst, Step};
 ghost use Rattle.attempts.specs.Jobs.{Job, State};
-ghost use Rattle.attempts.specs.Starts.{IsStart};
+ghost use Rattle.attempts.specs.Starts.{IsFirstState};
 ghost use Rattle.attempts.specs.Turns.{ComesOut, Outcome};
 ghost use Rattle.circuit.specs.Circuits.{Circuit, Connection};
 ghost use Rattle.fabric.specs.Device.{Device};
 ghost use Rattle.fabric.specs.GraphOf.{IsGraph};
 ghost use Rattle.repair.specs.Layouts.{Layout, configured};
-ghost use Rattle.repair.specs.Nets.{RipUnsafe};
 ghost use Rattle.std.specs.Prelude.{List, [], ◌∷◌, ◌≡◌, ℕ};
+ghost use Rattle.records.specs.Ripping.{RipUnsafe};
 ghost use Rattle.upset.specs.Safe.{IsSafe};
 
 /// A job has at most one start.
 pub fn one_start()
-    ensures { (job : Job) (s t : State) → IsStart job s → IsStart job t → s ≡ t }
+    ensures { (job : Job) (s t : State) → IsFirstState job s → IsFirstState job t → s ≡ t }
 {}
 
 /// An attempt comes out in at most one way.

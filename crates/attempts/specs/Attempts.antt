@@ -10,7 +10,7 @@ use Rattle.attempts.specs.Turns.{Cut, Outcome, Complete, Blocked, ComesOut}
 use Rattle.attempts.specs.Jobs.{Job, State, read_of}
 use Rattle.attempts.specs.Moves.{Move}
 use Rattle.attempts.specs.Candidates.{Step, IsFirst, HasNone}
-use Rattle.attempts.specs.Starts.{IsStart}
+use Rattle.attempts.specs.Starts.{IsFirstState}
 
 -- what the log tells, in order: an attempt that was blocked, with the wires of net and pin; a move; an attempt that is
 -- complete
@@ -78,5 +78,9 @@ pub data Answer : Type 0 where
 
 -- The answer to a job: bits stand that are bad before any attempt, or the attempts run to their end.
 pub data IsAnswer (job : Job) : Answer → Type 0 where
-  standing : (state : State) → IsStart job state → (IsSafe (configured state.layout) → ⊥) → IsAnswer job Standing
-  ended : {log : List Event} {e : Ending} (state : State) → IsStart job state → IsSafe (configured state.layout) → Runs job state log e → IsAnswer job (Ended log e)
+  standing : (state : State) → IsFirstState job state → (IsSafe (configured state.layout) → ⊥) → IsAnswer job Standing
+  ended : {log : List Event} {e : Ending} (state : State) → IsFirstState job state → IsSafe (configured state.layout) → Runs job state log e → IsAnswer job (Ended log e)
+
+-- the attempts of a job end with all connections routed, and this layout is what they leave
+abbrev pub EndsRouted : Job → Layout → Type 0
+EndsRouted job y = (log : List Event) × ((connections : ℕ) × IsAnswer job (Ended log (Routed y connections)))

@@ -2,12 +2,13 @@
 use Rattle.std.specs.Prelude.{◌≡◌, ◌≢◌, ℕ, List, ◌⊎◌}
 use Rattle.words.specs.Members.{In}
 use Rattle.records.specs.Side.{Side}
+use Rattle.records.specs.Ripping.{Rip}
 use Rattle.fabric.specs.Device.{Device}
 use Rattle.circuit.specs.Parts.{PartRef, OfClock, Source, sources}
 use Rattle.circuit.specs.Circuits.{Circuit, Connection, IsConnection}
 use Rattle.upset.specs.Configured.{circuit_of}
 use Rattle.repair.specs.Layouts.{Layout, configured}
-use Rattle.repair.specs.Nets.{Rip, IsRipped}
+use Rattle.repair.specs.Nets.{IsRipped}
 
 -- the device, the design that was read, the most attempts, and which nets are ripped at the start
 pub record Job : Type 0 where

@@ -19,7 +19,7 @@ abbrev pub IsRippedAtStart : Job → Connection → Type 0
 IsRippedAtStart job x = IsConnection (read_of job) x × IsRippedPart job [] x.source
 
 -- The given placement with the text without the routes of ripped nets, and the ripped connections in order.
-pub record IsStart (job : Job) (state : State) : Type 0 where
+pub record IsFirstState (job : Job) (state : State) : Type 0 where
   pub graph : state.layout.graph ≡ job.design.graph
   pub text : IsRest (IsRipped job.rip job.device (configured job.design)) job.design.config (configured job.design) state.layout.config
   pub cells : state.layout.cells ≡ job.design.cells

@@ -1,10 +1,11 @@
 -- The faults of an arc and of an option, where the open mux or enum is known.
 use Rattle.std.proofs.Common.{◌≡◌, ℕ, List, [], ◌∷◌, ◌++◌, true, false, Option, Some, None, IsSome, IfSome, Result, Ok, Err, length, nat_lt, refl, sym, ap, subst, ◌∙◌}
 use Rattle.words.specs.OrMemory.{OrMemory}
+use Rattle.words.specs.Firsts.{unless_fault}
 use Rattle.records.specs.Database.{Arc, Mux, WordSetting, EnumOption, EnumSetting}
 use Rattle.patterns.specs.Bits.{PatternBit}
-use Rattle.records.specs.Limits.{PatternBits}
-use Rattle.grammars.specs.BitsDb.{DbFault, TooLarge, has_source, has_value, last_of, most_bits, arc_fault, bits_fault, option_fault, entry_fault, unless_fault, some_if}
+use Rattle.records.specs.Limits.{PatternBits, most_pattern_bits}
+use Rattle.grammars.specs.BitsDb.{DbFault, TooLarge, has_source, has_value, last_of, arc_fault, bits_fault, option_fault, entry_fault, some_if}
 use Rattle.grammars.specs.RowByRow.{with_bits}
 use Rattle.grammars.proofs.Lasts.{last_pushed}
 
@@ -13,13 +14,13 @@ arc_at number muxes front mux arc split = ap (arc_fault number (Some arc)) (ap l
 
 -- a pattern of more bits is too large
 pub long_arc : (number : ℕ) (muxes front : List Mux) (mux : Mux) (arc : Arc) (next : List Mux) → muxes ≡ front ++ mux ∷ [] → has_source mux.arcs arc.source ≡ false
-    → nat_lt most_bits (length arc.bits) ≡ true → unless_fault (arc_fault number (Some arc) (last_of muxes)) next ≡ Err (TooLarge PatternBits)
+    → nat_lt most_pattern_bits (length arc.bits) ≡ true → unless_fault (arc_fault number (Some arc) (last_of muxes)) next ≡ Err (TooLarge PatternBits)
 long_arc number muxes front mux arc next split has long =
     ap (λ f. unless_fault f next) (arc_at number muxes front mux arc split ∙ ap (λ b. entry_fault number b arc.bits) has ∙ ap (λ b. some_if b (TooLarge PatternBits)) long)
 
 -- another arc has no fault
 pub new_arc : (number : ℕ) (muxes front : List Mux) (mux : Mux) (arc : Arc) (next : List Mux) → muxes ≡ front ++ mux ∷ [] → has_source mux.arcs arc.source ≡ false
-    → nat_lt most_bits (length arc.bits) ≡ false → unless_fault (arc_fault number (Some arc) (last_of muxes)) next ≡ Ok next
+    → nat_lt most_pattern_bits (length arc.bits) ≡ false → unless_fault (arc_fault number (Some arc) (last_of muxes)) next ≡ Ok next
 new_arc number muxes front mux arc next split has long =
     ap (λ f. unless_fault f next) (arc_at number muxes front mux arc split ∙ ap (λ b. entry_fault number b arc.bits) has ∙ ap (λ b. some_if b (TooLarge PatternBits)) long)
 
@@ -27,17 +28,17 @@ option_at : (number : ℕ) (enums front : List EnumSetting) (enum : EnumSetting)
 option_at number enums front enum option split = ap (option_fault number (Some option)) (ap last_of split ∙ last_pushed front enum)
 
 pub long_option : (number : ℕ) (enums front : List EnumSetting) (enum : EnumSetting) (option : EnumOption) (next : List EnumSetting) → enums ≡ front ++ enum ∷ [] → has_value enum.options option.value ≡ false
-    → nat_lt most_bits (length option.bits) ≡ true → unless_fault (option_fault number (Some option) (last_of enums)) next ≡ Err (TooLarge PatternBits)
+    → nat_lt most_pattern_bits (length option.bits) ≡ true → unless_fault (option_fault number (Some option) (last_of enums)) next ≡ Err (TooLarge PatternBits)
 long_option number enums front enum option next split has long =
     ap (λ f. unless_fault f next) (option_at number enums front enum option split ∙ ap (λ b. entry_fault number b option.bits) has ∙ ap (λ b. some_if b (TooLarge PatternBits)) long)
 
 pub new_option : (number : ℕ) (enums front : List EnumSetting) (enum : EnumSetting) (option : EnumOption) (next : List EnumSetting) → enums ≡ front ++ enum ∷ [] → has_value enum.options option.value ≡ false
-    → nat_lt most_bits (length option.bits) ≡ false → unless_fault (option_fault number (Some option) (last_of enums)) next ≡ Ok next
+    → nat_lt most_pattern_bits (length option.bits) ≡ false → unless_fault (option_fault number (Some option) (last_of enums)) next ≡ Ok next
 new_option number enums front enum option next split has long =
     ap (λ f. unless_fault f next) (option_at number enums front enum option split ∙ ap (λ b. entry_fault number b option.bits) has ∙ ap (λ b. some_if b (TooLarge PatternBits)) long)
 
 -- the bits of a row within the limit have no fault
-pub new_bits : (number : ℕ) (words : List WordSetting) (o : Option (List PatternBit)) (bits : List PatternBit) → Some bits ≡ o → nat_lt most_bits (length bits) ≡ false
+pub new_bits : (number : ℕ) (words : List WordSetting) (o : Option (List PatternBit)) (bits : List PatternBit) → Some bits ≡ o → nat_lt most_pattern_bits (length bits) ≡ false
     → unless_fault (bits_fault number o) (with_bits words o) ≡ Ok (with_bits words (Some bits))
 new_bits number words o bits same short =
     ap (λ p. unless_fault (bits_fault number p) (with_bits words p)) (sym same) ∙ ap (λ b. unless_fault (some_if b (TooLarge PatternBits)) (with_bits words (Some bits))) short

@@ -1,8 +1,9 @@
 -- Rows that are read into a part of a reader.
 use Rattle.std.proofs.Common.{◌≡◌, ℕ, List, Option, Some, Result, subst, sym}
 use Rattle.words.specs.OrMemory.{OrMemory}
+use Rattle.words.specs.Firsts.{unless_fault}
 use Rattle.records.specs.Database.{WordSetting, TileDb}
-use Rattle.grammars.specs.BitsDb.{Reading, Kind, OfWord, bits_of, bits_fault, row_fault, unless_fault}
+use Rattle.grammars.specs.BitsDb.{Reading, Kind, OfWord, bits_of, bits_fault, row_fault}
 use Rattle.grammars.specs.RowByRow.{with_bits, with_row}
 use Rattle.bits_db.specs.declared.error.DbError.{DbError}
 use Rattle.bits_db.specs.Faults.{fault_of}

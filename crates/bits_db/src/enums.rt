@@ -2,8 +2,9 @@
 
 ghost use Rattle.std.specs.Prelude.{◌≡◌, ◌∷◌, ◌++◌, [], map, option_map, true, IfOk, OnOk, Some as Present};
 ghost use Rattle.words.specs.OrMemory.{OrMemory};
+ghost use Rattle.words.specs.Firsts.{unless_fault};
 ghost use Rattle.texts.specs.Names.{is_name};
-ghost use Rattle.grammars.specs.BitsDb.{option_of as option_of_words, option_fault, bad_line_if, has_enum, last_of, unless_fault};
+ghost use Rattle.grammars.specs.BitsDb.{option_of as option_of_words, option_fault, bad_line_if, has_enum, last_of};
 ghost use Rattle.grammars.specs.RowByRow.{with_option as with_one_option};
 ghost use Rattle.bits_db.specs.Faults.{fault_of};
 ghost use Rattle.bits_db.specs.Heads.{IsDefault};

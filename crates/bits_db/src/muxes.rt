@@ -2,8 +2,9 @@
 
 ghost use Rattle.std.specs.Prelude.{◌≡◌, ◌∷◌, ◌++◌, [], map, true, OnOk, Some as Present};
 ghost use Rattle.words.specs.OrMemory.{OrMemory};
+ghost use Rattle.words.specs.Firsts.{unless_fault};
 ghost use Rattle.texts.specs.Names.{is_name};
-ghost use Rattle.grammars.specs.BitsDb.{arc_of as arc_of_words, arc_fault, bad_line_if, has_sink, last_of, unless_fault};
+ghost use Rattle.grammars.specs.BitsDb.{arc_of as arc_of_words, arc_fault, bad_line_if, has_sink, last_of};
 ghost use Rattle.grammars.specs.RowByRow.{with_arc as with_one_arc};
 ghost use Rattle.bits_db.specs.Faults.{fault_of};
 ghost use Rattle.bits_db.specs.Readings.{KnowsItsMuxes};

@@ -2,6 +2,7 @@
 
 ghost use Rattle.std.specs.Prelude.{◌≡◌, ◌∷◌, map, true, OnOk, Some as Present};
 ghost use Rattle.words.specs.OrMemory.{OrMemory};
+ghost use Rattle.words.specs.Firsts.{unless_fault};
 ghost use Rattle.grammars.specs.BitsDb as db;
 ghost use Rattle.grammars.specs.RowByRow.{nothing_read, with_head as db_with_head, with_row as db_with_row, row_step, line_step};
 ghost use Rattle.bits_db.specs.Faults.{fault_of};
@@ -80,7 +81,7 @@ impl<'a> Reader<'a> {
         requires names { AreNames head }
         requires known { IsInStep self.old }
         ensures step { let before = (reading_view self.old).db in
-            OrMemory (λ _. reading_view self.new) fault_of result (db.unless_fault (db.head_fault number before (head_view head.entry))
+            OrMemory (λ _. reading_view self.new) fault_of result (unless_fault (db.head_fault number before (head_view head.entry))
             (record { open_kind = Present (db.kind_of (head_view head.entry)); db = db_with_head before (head_view head.entry) })) }
         ensures known { OnOk result (IsInStep self.new) }
     {
@@ -109,7 +110,7 @@ impl<'a> Reader<'a> {
     fn add_row(&mut self, number: u32, first: &'a [u8], rest: Words<'a>) -> Result<(), DbError>
         requires { IsInStep self.old }
         ensures step { let row = first.now ∷ map (λ w. w.text) rest.entry in let before = reading_view self.old in
-            OrMemory (λ _. reading_view self.new) fault_of result (db.unless_fault (db.row_fault number before.open_kind before.db row)
+            OrMemory (λ _. reading_view self.new) fault_of result (unless_fault (db.row_fault number before.open_kind before.db row)
             (record { open_kind = before.open_kind; db = db_with_row before.open_kind before.db row })) }
         ensures known { OnOk result (IsInStep self.new) }
     {

@@ -2,8 +2,9 @@
 
 ghost use Rattle.std.specs.Prelude.{◌≡◌, ◌∷◌, ◌++◌, [], map, true, IsSome, OnOk};
 ghost use Rattle.words.specs.OrMemory.{OrMemory};
+ghost use Rattle.words.specs.Firsts.{unless_fault};
 ghost use Rattle.texts.specs.Names.{is_name};
-ghost use Rattle.grammars.specs.BitsDb.{bits_of, bits_fault, bad_line_if, has_word, last_of, unless_fault};
+ghost use Rattle.grammars.specs.BitsDb.{bits_of, bits_fault, bad_line_if, has_word, last_of};
 ghost use Rattle.grammars.specs.RowByRow.{with_bits};
 ghost use Rattle.bits_db.specs.Faults.{fault_of};
 ghost use Rattle.bits_db.specs.Readings.{KnowsItsWords};

@@ -8,7 +8,8 @@ ghost use Rattle.json_forms.specs.Values.{member_in, name_in};
 ghost use Rattle.json_forms.specs.Parts.{name_or_empty_in};
 ghost use Rattle.json_forms.specs.Faults as form;
 ghost use Rattle.json_forms.specs.Kinds.{join_in, slice_in, pad_in};
-ghost use Rattle.json_forms.specs.Profile.{list_read, any_form, slice_verdict, pad_verdict, profile_of, profile_of_value as profile_of_value_spec};
+ghost use Rattle.json_forms.specs.Profile.{slice_verdict, pad_verdict, profile_of, profile_of_value as profile_of_value_spec};
+ghost use Rattle.json_forms.specs.Lists.{list_read, any_form};
 ghost use Rattle.cell_profile.specs.Faults.{fault_of};
 
 use crate::judges::{PadJudge, SliceJudge};

@@ -7,7 +7,7 @@ use Rattle.records.specs.Side.{Placed, Triple, Side}
 use Rattle.fabric.specs.Graph.{Graph}
 use Rattle.fabric.specs.Values.{word_at, value_at}
 use Rattle.cells.specs.Sites.{Site, slice_site, pad_site, settings_at, unnamed_pads}
-use Rattle.cells.specs.Takes.{taken, suits}
+use Rattle.cells.specs.Takes.{take_at, suits}
 use Rattle.cells.specs.Resolved.{role_of}
 use Rattle.cells.specs.Shapes.{HaveEqualShape}
 use Rattle.cells.specs.Readings.{Reading, choices_of, readings}
@@ -18,7 +18,7 @@ use Rattle.cells.specs.Faults.{CellFault, UnknownSite, ShapeDiffers, Unmodelled,
 pub record SliceModelled (g : Graph) (image : Bits) (s : Site SliceKind) : Type 0 where
   pub required : (r : Require) → In s.kind.require r → value_at g image s.number r.setting ≡ Some r.value
   pub words : (t : TableKind) → In s.kind.tables t → (bits : List Bool) × ((word_at g image s.number t.word ≡ Some bits) × (length bits ≡ 2 ^ length t.pins))
-  pub choices : (r : RegisterKind) (c : Choice) → In s.kind.registers r → In (choices_of r) c → (t : Take) × (taken g image s.number c ≡ Some t)
+  pub choices : (r : RegisterKind) (c : Choice) → In s.kind.registers r → In (choices_of r) c → (t : Take) × (take_at g image s.number c ≡ Some t)
 
 -- a slice stands at a site, and its settings are modelled
 abbrev pub SliceStands : Graph → Profile → Bits → Placed → Type 0
@@ -27,7 +27,7 @@ SliceStands g profile image p = (s : Site SliceKind) × ((slice_site g profile p
 -- a pad stands at a site and has the mode of its role
 abbrev pub PadStands : Graph → Profile → Bits → Side → Placed → Type 0
 PadStands g profile image side p =
-    (s : Site PadKind) × ((pad_site g profile p ≡ Some s) × ((t : Take) × ((taken g image s.number s.kind.mode ≡ Some t) × (suits (role_of side p.name) t ≡ true))))
+    (s : Site PadKind) × ((pad_site g profile p ≡ Some s) × ((t : Take) × ((take_at g image s.number s.kind.mode ≡ Some t) × (suits (role_of side p.name) t ≡ true))))
 
 -- two sites have equal shape
 abbrev pub ShapedAlike : Graph → Site SliceKind → Site SliceKind → Type 0
@@ -46,10 +46,10 @@ pub record TripleAlike (g : Graph) (profile : Profile) (side : Side) (t : Triple
 
 -- an unnamed pad has a mode, which doesn't drive out of the fabric
 abbrev pub PadIsQuiet : Graph → Bits → Site PadKind → Type 0
-PadIsQuiet g image s = (t : Take) × ((taken g image s.number s.kind.mode ≡ Some t) × (t ≢ TakeOut))
+PadIsQuiet g image s = (t : Take) × ((take_at g image s.number s.kind.mode ≡ Some t) × (t ≢ TakeOut))
 
 -- nothing is refused
-pub record IsAccepted (g : Graph) (profile : Profile) (image : Bits) (side : Side) : Type 0 where
+pub record CellsAreAccepted (g : Graph) (profile : Profile) (image : Bits) (side : Side) : Type 0 where
   pub slices : (p : Placed) → In side.slices p → SliceStands g profile image p
   pub pads : (p : Placed) → In side.pads p → PadStands g profile image side p
   pub shapes : (t : Triple) → In side.triples t → TripleAlike g profile side t
@@ -63,4 +63,4 @@ IsRefused g profile image side (ShapeDiffers name) = (t : Triple) × (In side.tr
 IsRefused g profile image side (Unmodelled cell setting value) =
     (r : Reading) × (In (readings g profile image side) r × ((r.modelled ≡ false) × ((r.cell ≡ cell) × ((r.setting ≡ setting) × (unwrap_or r.value (codes "?") ≡ value)))))
 IsRefused g profile image side (UnnamedPad tile kind) =
-    (s : Site PadKind) × (In (unnamed_pads g profile side) s × ((s.tile.name ≡ tile) × ((s.kind.name ≡ kind) × (taken g image s.number s.kind.mode ≡ Some TakeOut))))
+    (s : Site PadKind) × (In (unnamed_pads g profile side) s × ((s.tile.name ≡ tile) × ((s.kind.name ≡ kind) × (take_at g image s.number s.kind.mode ≡ Some TakeOut))))

@@ -8,7 +8,7 @@ use Rattle.records.specs.Profile.{SliceKind, PadKind, Profile}
 use Rattle.records.specs.Side.{Triple, Side}
 use Rattle.fabric.specs.Graph.{Graph}
 use Rattle.cells.specs.Sites.{Site, slice_site, pad_site, settings_at, unnamed_pads}
-use Rattle.cells.specs.Takes.{taken, takes_out}
+use Rattle.cells.specs.Takes.{take_at, takes_out}
 use Rattle.cells.specs.Shapes.{equal_shape}
 use Rattle.cells.specs.Readings.{Reading, slices_of, pads_of, readings}
 
@@ -48,7 +48,7 @@ value_fault r = if r.modelled then None else Some (Unmodelled r.cell r.setting (
 
 -- an unnamed pad doesn't drive out of the fabric
 abbrev pub unnamed_fault : Graph → Bits → Site PadKind → Option CellFault
-unnamed_fault g image s = if option_map_or takes_out (taken g image s.number s.kind.mode) false then Some (UnnamedPad s.tile.name s.kind.name) else None
+unnamed_fault g image s = if option_map_or takes_out (take_at g image s.number s.kind.mode) false then Some (UnnamedPad s.tile.name s.kind.name) else None
 
 -- The fault of the cells, where they have one. Sites come before shapes, these before values, and these before
 -- unnamed pads; slices come before named pads, each in byte order of names, and triples come in file order.

@@ -1,4 +1,3 @@
-pub mod NameOrder
 pub mod Sites
 pub mod Standing
 pub mod Takes

@@ -2,14 +2,14 @@
 use Rattle.std.specs.Prelude.{ℕ, Bool, false, List, [], ◌∷◌, ◌++◌, ◌^◌, ◌==◌, map, flat_map, reverse, length, codes, Option, option_map, unwrap_or, if◌then◌else◌}
 use Rattle.std.specs.Option.{option_map_or, is_some, option_to_list}
 use Rattle.std.specs.Str.{bytes_eq}
+use Rattle.words.specs.Ordered.{in_order}
 use Rattle.patterns.specs.Bits.{Bits}
 use Rattle.records.specs.Profile.{Choice, Require, TableKind, RegisterKind, SliceKind, PadKind, Profile}
 use Rattle.records.specs.Side.{Placed, Side}
 use Rattle.fabric.specs.Graph.{Graph}
 use Rattle.fabric.specs.Values.{word_at, value_at}
-use Rattle.cells.specs.NameOrder.{in_name_order}
 use Rattle.cells.specs.Sites.{Site, slice_site, pad_site, unnamed_pads}
-use Rattle.cells.specs.Takes.{choice_value, taken, suits}
+use Rattle.cells.specs.Takes.{choice_value, take_at, suits}
 use Rattle.cells.specs.Resolved.{role_of}
 
 -- a setting as it is read for a cell, with its value where it has one
@@ -44,7 +44,7 @@ table_reading g image cell tile t = record {
 -- a choice has a case for its value
 abbrev pub choice_reading : Graph → Bits → List ℕ → ℕ → Choice → Reading
 choice_reading g image cell tile choice =
-    record { cell = cell; setting = unwrap_or choice.setting []; value = choice_value g image tile choice; modelled = is_some (taken g image tile choice) }
+    record { cell = cell; setting = unwrap_or choice.setting []; value = choice_value g image tile choice; modelled = is_some (take_at g image tile choice) }
 
 -- the choices of a register: data, enable, reset, set value and clock
 abbrev pub choices_of : RegisterKind → List Choice
@@ -63,7 +63,7 @@ slice_readings g image p site =
 -- a named pad has the mode of its role
 abbrev pub pad_reading : Graph → Bits → Side → Placed → Site PadKind → Reading
 pad_reading g image side p site =
-    record (choice_reading g image p.name site.number site.kind.mode) { modelled = option_map_or (suits (role_of side p.name)) (taken g image site.number site.kind.mode) false }
+    record (choice_reading g image p.name site.number site.kind.mode) { modelled = option_map_or (suits (role_of side p.name)) (take_at g image site.number site.kind.mode) false }
 
 -- an unnamed pad has a mode; it goes by the name of its tile
 abbrev pub unnamed_reading : Graph → Bits → Site PadKind → Reading
@@ -71,10 +71,10 @@ unnamed_reading g image site = choice_reading g image site.tile.name site.number
 
 -- the slices and the named pads of a side file in byte order of their names
 abbrev pub slices_of : Side → List Placed
-slices_of side = in_name_order (λ p. p.name) side.slices
+slices_of side = in_order (λ p. p.name) side.slices
 
 abbrev pub pads_of : Side → List Placed
-pads_of side = in_name_order (λ p. p.name) side.pads
+pads_of side = in_order (λ p. p.name) side.pads
 
 -- all settings that are read: those of slices, of named pads, and of unnamed pads
 abbrev pub readings : Graph → Profile → Bits → Side → List Reading

@@ -3,13 +3,13 @@
 use Rattle.std.specs.Prelude.{ℕ, Bool, not, List, [], find, filter, filter_map, flat_map, Option, option_map, option_and_then, slice_get, unwrap_or, ◌&&◌}
 use Rattle.std.specs.List.{list_any, enumerate_from}
 use Rattle.std.specs.Str.{bytes_eq}
+use Rattle.words.specs.Ordered.{in_order}
 use Rattle.records.specs.Grid.{Tile}
 use Rattle.records.specs.Profile.{SliceKind, PadKind, Profile}
 use Rattle.records.specs.Side.{Placed, Side}
 use Rattle.fabric.specs.Settings.{Settings}
 use Rattle.fabric.specs.Graph.{Graph}
 use Rattle.fabric.specs.Image.{tile_named}
-use Rattle.cells.specs.NameOrder.{in_name_order}
 
 -- a site: its tile, with the tile's number in the grid, and its kind
 pub record Site (K : Type 0) : Type 0 where
@@ -51,7 +51,7 @@ is_named side site = list_any (λ p. bytes_eq p.tile site.tile.name && bytes_eq 
 -- the pad sites of the tile of a number, by the names of their kinds
 abbrev pub tile_pad_sites : Profile → ℕ → Tile → List (Site PadKind)
 tile_pad_sites profile number tile =
-    filter_map (site_in number tile) (in_name_order (λ k. k.name) (filter (λ k. bytes_eq k.tile tile.kind) profile.pads))
+    filter_map (site_in number tile) (in_order (λ k. k.name) (filter (λ k. bytes_eq k.tile tile.kind) profile.pads))
 
 -- the pad sites at which no named pad stands, by the names of their tiles, then of their kinds
 abbrev pub unnamed_pads : Graph → Profile → Side → List (Site PadKind)

@@ -10,7 +10,7 @@ use Rattle.cells.specs.Sites.{Site}
 
 -- The site's tile is in the grid, has the name that is given and a row and a column, and the site's kind is listed
 -- for the tile's type under the name that is given.
-pub record StandsAt {K : Type 0} (g : Graph) (kinds : List K) (type_of name_of : K → List ℕ) (p : Placed) (s : Site K) : Type 0 where
+pub record StandsAtSite {K : Type 0} (g : Graph) (kinds : List K) (type_of name_of : K → List ℕ) (p : Placed) (s : Site K) : Type 0 where
   pub in_grid : slice_get g.grid.tiles s.number ≡ Some s.tile
   pub tile_name : s.tile.name ≡ p.tile
   pub place : ℕ × ℕ
@@ -20,10 +20,10 @@ pub record StandsAt {K : Type 0} (g : Graph) (kinds : List K) (type_of name_of :
   pub kind_name : name_of s.kind ≡ p.kind
 
 abbrev pub SliceStandsAt : Graph → Profile → Placed → Site SliceKind → Type 0
-SliceStandsAt g profile p s = StandsAt g profile.slices (λ k. k.tile) (λ k. k.name) p s
+SliceStandsAt g profile p s = StandsAtSite g profile.slices (λ k. k.tile) (λ k. k.name) p s
 
 abbrev pub PadStandsAt : Graph → Profile → Placed → Site PadKind → Type 0
-PadStandsAt g profile p s = StandsAt g profile.pads (λ k. k.tile) (λ k. k.name) p s
+PadStandsAt g profile p s = StandsAtSite g profile.pads (λ k. k.tile) (λ k. k.name) p s
 
 -- no two tiles of the grid have one name
 abbrev pub TilesApart : Graph → Type 0

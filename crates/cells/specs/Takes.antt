@@ -24,13 +24,13 @@ abbrev pub case_of : Graph → Bits → ℕ → Choice → Option Case
 case_of g image tile choice = option_map_or (λ setting. option_and_then (case_with choice.cases) (value_at g image tile setting)) choice.setting (slice_get choice.cases 0)
 
 -- what a choice takes
-abbrev pub taken : Graph → Bits → ℕ → Choice → Option Take
-taken g image tile choice = option_map (λ c. c.take) (case_of g image tile choice)
+abbrev pub take_at : Graph → Bits → ℕ → Choice → Option Take
+take_at g image tile choice = option_map (λ c. c.take) (case_of g image tile choice)
 
 -- The number of the wire that a name of a kind stands for in a tile. (Each such name has one, at each site of the
 -- kind in the device of the graph.)
-abbrev pub wire_at : Graph → Rules → Tile → List ℕ → ℕ
-wire_at g rules tile name = unwrap_or (number_in g.wires rules tile name) 0
+abbrev pub wire_number : Graph → Rules → Tile → List ℕ → ℕ
+wire_number g rules tile name = unwrap_or (number_in g.wires rules tile name) 0
 
 -- what a register takes; it takes nothing that only pads take
 abbrev pub input_of : (List ℕ → ℕ) → Take → Input

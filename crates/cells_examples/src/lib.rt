@@ -12,7 +12,7 @@ ghost use Rattle.cells_examples.specs.Sides.{misplaced, turned, without_outputs}
 ghost use Rattle.fabric.specs.GraphOf.{link_cmp};
 ghost use Rattle.fabric.specs.Image.{image_of};
 ghost use Rattle.fabric.specs.Links.{links_of};
-ghost use Rattle.fabric_laws.specs.Insertion.{in_order};
+ghost use Rattle.fabric_laws.specs.Insertion.{sorted_once};
 ghost use Rattle.fabric_laws.specs.PlainGraph.{graph_of};
 ghost use Rattle.mini.specs.MiniA.{mini_a};
 ghost use Rattle.mini.specs.Toggle.{toggle, toggle_side};
@@ -27,10 +27,10 @@ pub fn cells_of_toggle()
 
 /// With other numbers of its wires, the circuit of the toggle is that of the example of a circuit.
 pub fn toggle_is_the_example()
-    ensures numbers { let g = graph_of mini_a in length (in_order nat_cmp (filter_map example_number g.wires)) ≡ length (filter_map example_number g.wires) }
+    ensures numbers { let g = graph_of mini_a in length (sorted_once nat_cmp (filter_map example_number g.wires)) ≡ length (filter_map example_number g.wires) }
     ensures links { let g = graph_of mini_a in
-        in_order link_cmp (map (link_with (renumbered g)) (links_of g (image_of g toggle))) ≡ in_order link_cmp example.routing.links }
-    ensures outputs { let g = graph_of mini_a in in_order nat_cmp (map (renumbered g) g.outputs) ≡ in_order nat_cmp example.routing.outputs }
+        sorted_once link_cmp (map (link_with (renumbered g)) (links_of g (image_of g toggle))) ≡ sorted_once link_cmp example.routing.links }
+    ensures outputs { let g = graph_of mini_a in sorted_once nat_cmp (map (renumbered g) g.outputs) ≡ sorted_once nat_cmp example.routing.outputs }
     ensures cells { let g = graph_of mini_a in cells_with (renumbered g) (toggle_cells g) ≡ example.cells }
     ensures side { toggle_side ≡ example.side }
 {}

@@ -17,11 +17,11 @@ use Rattle.fabric.specs.Graph.{Graph}
 use Rattle.fabric.specs.Values.{word_at, value_at}
 use Rattle.circuit.specs.Cells.{Cells}
 use Rattle.cells.specs.Sites.{Site, slice_site, pad_site, settings_at, unnamed_pads}
-use Rattle.cells.specs.Takes.{taken, suits, takes_out}
+use Rattle.cells.specs.Takes.{take_at, suits, takes_out}
 use Rattle.cells.specs.Resolved.{role_of}
 use Rattle.cells.specs.Readings.{Reading, require_reading, table_reading, choice_reading, choices_of, register_readings, slice_readings, pad_reading, unnamed_reading, slices_of, pads_of, readings}
 use Rattle.cells.specs.Faults.{CellFault, UnknownSite, ShapeDiffers, Unmodelled, UnnamedPad, site_fault, site_of_slice, shaped_alike, shape_fault, value_fault, unnamed_fault, cell_fault}
-use Rattle.cells.specs.Accepted.{SliceModelled, ShapedAlike, TripleAlike, PadIsQuiet, IsAccepted, IsRefused}
+use Rattle.cells.specs.Accepted.{SliceModelled, ShapedAlike, TripleAlike, PadIsQuiet, CellsAreAccepted, IsRefused}
 use Rattle.cells.specs.CellsOf.{unless, slice_cells, pad_cells, cells_of}
 use Rattle.cells_laws.proofs.Options.{tested_from, tested_to, or_none, none_or, or_some, none_each, each_none, some_one}
 use Rattle.cells_laws.proofs.NameOrder.{ordered_from, ordered_to}
@@ -157,11 +157,11 @@ module _ (g : Graph) (profile : Profile) (image : Bits) (side : Side) where
             let v = tested_from (λ bits. length bits == 2 ^ length t.pins) (word_at g image s.number t.word) (h x here) in
             (v.0, (v.1.0, (Decides-eqb (length v.0) (2 ^ length t.pins)).0 v.1.1))
 
-        choices : (r : RegisterKind) (c : Choice) → In s.kind.registers r → In (choices_of r) c → (t : Take) × (taken g image s.number c ≡ Some t)
+        choices : (r : RegisterKind) (c : Choice) → In s.kind.registers r → In (choices_of r) c → (t : Take) × (take_at g image s.number c ≡ Some t)
         choices r c i j =
             let x = choice_reading g image p.name s.number c in
             let here = in_flat_map (register_readings g image p.name s.number) s.kind.registers r x i (in_map (choice_reading g image p.name s.number) (choices_of r) c j) in
-            is_there (taken g image s.number c) (h x (in_right (requires ++ tables) registers x here))
+            is_there (take_at g image s.number c) (h x (in_right (requires ++ tables) registers x here))
 
     modelled_to : SliceModelled g image s → (r : Reading) → In (slice_readings g image p s) r → r.modelled ≡ true
     modelled_to h r i = elim (in_either (requires ++ tables) registers r i) [
@@ -187,7 +187,7 @@ module _ (g : Graph) (profile : Profile) (image : Bits) (side : Side) where
             let q = of_flat_map (register_readings g image p.name s.number) s.kind.registers r k in
             let c = of_map (choice_reading g image p.name s.number) (choices_of q.0) r q.1.1 in
             let t = h.choices q.0 c.0 q.1.0 c.1.0 in
-            ap (λ x. x.modelled) (sym c.1.1) ∙ there_is (taken g image s.number c.0) t.0 t.1
+            ap (λ x. x.modelled) (sym c.1.1) ∙ there_is (take_at g image s.number c.0) t.0 t.1
 
   abbrev of_slices : List Reading
   of_slices = flat_map (λ p. option_map_or (slice_readings g image p) (slice_site g profile p) []) (slices_of side)
@@ -205,19 +205,19 @@ module _ (g : Graph) (profile : Profile) (image : Bits) (side : Side) where
         (subst (λ o. In (option_map_or (slice_readings g image p) o []) r) (sym e) j)))))
 
     pad_suits : (p : Placed) (s : Site PadKind) → In side.pads p → pad_site g profile p ≡ Some s
-        → (t : Take) × ((taken g image s.number s.kind.mode ≡ Some t) × (suits (role_of side p.name) t ≡ true))
+        → (t : Take) × ((take_at g image s.number s.kind.mode ≡ Some t) × (suits (role_of side p.name) t ≡ true))
     pad_suits p s i e =
         let r = pad_reading g image side p s in
-        tested_from (suits (role_of side p.name)) (taken g image s.number s.kind.mode) (modelled r (in_left (of_slices ++ of_pads) of_unnamed r (in_right of_slices of_pads r
+        tested_from (suits (role_of side p.name)) (take_at g image s.number s.kind.mode) (modelled r (in_left (of_slices ++ of_pads) of_unnamed r (in_right of_slices of_pads r
         (in_flat_map (λ p. option_to_list (option_map (pad_reading g image side p) (pad_site g profile p))) (pads_of side) p r (ordered_to (λ p. p.name) side.pads p i)
         (subst (λ o. In (option_to_list (option_map (pad_reading g image side p) o)) r) (sym e) (inl refl))))))
 
-    has_mode : (s : Site PadKind) → In (unnamed_pads g profile side) s → (t : Take) × (taken g image s.number s.kind.mode ≡ Some t)
+    has_mode : (s : Site PadKind) → In (unnamed_pads g profile side) s → (t : Take) × (take_at g image s.number s.kind.mode ≡ Some t)
     has_mode s i =
         let r = unnamed_reading g image s in
-        is_there (taken g image s.number s.kind.mode) (modelled r (in_right (of_slices ++ of_pads) of_unnamed r (in_map (unnamed_reading g image) (unnamed_pads g profile side) s i)))
+        is_there (take_at g image s.number s.kind.mode) (modelled r (in_right (of_slices ++ of_pads) of_unnamed r (in_map (unnamed_reading g image) (unnamed_pads g profile side) s i)))
 
-  all_modelled : IsAccepted g profile image side → (r : Reading) → In (readings g profile image side) r → r.modelled ≡ true
+  all_modelled : CellsAreAccepted g profile image side → (r : Reading) → In (readings g profile image side) r → r.modelled ≡ true
   all_modelled h r i = elim (in_either (of_slices ++ of_pads) of_unnamed r i) [
     | inl j ↦ elim (in_either of_slices of_pads r j) [ inl k ↦ of_slice k | inr k ↦ of_pad k ]
     | inr j ↦ of_unnamed_pad j
@@ -235,7 +235,7 @@ module _ (g : Graph) (profile : Profile) (image : Bits) (side : Side) where
           let s = h.pads q.0 (ordered_from (λ p. p.name) side.pads q.0 q.1.0) in
           let here : In (pad_reading g image side q.0 s.0 ∷ []) r = subst (λ o. In (option_to_list (option_map (pad_reading g image side q.0) o)) r) s.1.0 q.1.1 in
           elim here [
-            | inl e ↦ ap (λ x. x.modelled) (sym e) ∙ tested_to (suits (role_of side q.0.name)) (taken g image s.0.number s.0.kind.mode) s.1.1.0 s.1.1.1.0 s.1.1.1.1
+            | inl e ↦ ap (λ x. x.modelled) (sym e) ∙ tested_to (suits (role_of side q.0.name)) (take_at g image s.0.number s.0.kind.mode) s.1.1.0 s.1.1.1.0 s.1.1.1.1
             | inr none ↦ absurd none
           ]
 
@@ -243,7 +243,7 @@ module _ (g : Graph) (profile : Profile) (image : Bits) (side : Side) where
       of_unnamed_pad k =
           let q = of_map (unnamed_reading g image) (unnamed_pads g profile side) r k in
           let t = h.unnamed q.0 q.1.0 in
-          ap (λ x. x.modelled) (sym q.1.1) ∙ there_is (taken g image q.0.number q.0.kind.mode) t.0 t.1.0
+          ap (λ x. x.modelled) (sym q.1.1) ∙ there_is (take_at g image q.0.number q.0.kind.mode) t.0 t.1.0
 
   -- the five conditions in their order
   abbrev slice_part : Option CellFault
@@ -261,7 +261,7 @@ module _ (g : Graph) (profile : Profile) (image : Bits) (side : Side) where
   abbrev unnamed_part : Option CellFault
   unnamed_part = first_fault (λ before s. unnamed_fault g image s) (unnamed_pads g profile side)
 
-  pub none_accepted : cell_fault g profile image side ≡ None → IsAccepted g profile image side
+  pub none_accepted : cell_fault g profile image side ≡ None → CellsAreAccepted g profile image side
   none_accepted h =
       let a = or_none slice_part (or_else pad_part (or_else shape_part (or_else value_part unnamed_part))) h in
       let b = or_none pad_part (or_else shape_part (or_else value_part unnamed_part)) a.1 in
@@ -280,17 +280,17 @@ module _ (g : Graph) (profile : Profile) (image : Bits) (side : Side) where
       values : value_part ≡ None → (r : Reading) → In (readings g profile image side) r → r.modelled ≡ true
       values h r i = unless_none r.modelled (Unmodelled r.cell r.setting (unwrap_or r.value (codes "?"))) (none_each value_fault [] (readings g profile image side) h r i)
 
-      quiet : (s : Site PadKind) → (t : Take) × (taken g image s.number s.kind.mode ≡ Some t) → unnamed_fault g image s ≡ None → PadIsQuiet g image s
+      quiet : (s : Site PadKind) → (t : Take) × (take_at g image s.number s.kind.mode ≡ Some t) → unnamed_fault g image s ≡ None → PadIsQuiet g image s
       quiet s t h = (
         t.0,
         (
           t.1,
-          λ e. false≢true (sym (where_none (option_map_or takes_out (taken g image s.number s.kind.mode) false) (UnnamedPad s.tile.name s.kind.name) h)
-              ∙ tested_to takes_out (taken g image s.number s.kind.mode) t.0 t.1 (subst (λ u. takes_out u ≡ true) (sym e) refl)),
+          λ e. false≢true (sym (where_none (option_map_or takes_out (take_at g image s.number s.kind.mode) false) (UnnamedPad s.tile.name s.kind.name) h)
+              ∙ tested_to takes_out (take_at g image s.number s.kind.mode) t.0 t.1 (subst (λ u. takes_out u ≡ true) (sym e) refl)),
         ),
       )
 
-  pub accepted_none : IsAccepted g profile image side → cell_fault g profile image side ≡ None
+  pub accepted_none : CellsAreAccepted g profile image side → cell_fault g profile image side ≡ None
   accepted_none h =
       none_or slice_part (or_else pad_part (or_else shape_part (or_else value_part unnamed_part)))
       (each_none (λ p. site_fault p.name (slice_site g profile p)) [] (slices_of side) (λ p i. (let s = h.slices p (ordered_from (λ p. p.name) side.slices p i) in known_site p.name (slice_site g profile p) s.0 s.1.0)))
@@ -303,7 +303,7 @@ module _ (g : Graph) (profile : Profile) (image : Bits) (side : Side) where
       (each_none (unnamed_fault g image) [] (unnamed_pads g profile side) quiet))))
     where
       quiet : (s : Site PadKind) → In (unnamed_pads g profile side) s → unnamed_fault g image s ≡ None
-      quiet s i = let t = h.unnamed s i in none_where (option_map_or takes_out (taken g image s.number s.kind.mode) false) (UnnamedPad s.tile.name s.kind.name)
+      quiet s i = let t = h.unnamed s i in none_where (option_map_or takes_out (take_at g image s.number s.kind.mode) false) (UnnamedPad s.tile.name s.kind.name)
           (subst (λ o. option_map_or takes_out o false ≡ false) (sym t.1.0) (not_out t.0 t.1.1))
 
   pub some_refused : (e : CellFault) → cell_fault g profile image side ≡ Some e → IsRefused g profile image side e
@@ -324,8 +324,8 @@ module _ (g : Graph) (profile : Profile) (image : Bits) (side : Side) where
               let u = unless_some r.0.modelled (Unmodelled r.0.cell r.0.setting (unwrap_or r.0.value (codes "?"))) e r.1.1 in
               subst (IsRefused g profile image side) u.1 (r.0, (r.1.0, (u.0, (refl, (refl, refl))))))
           | inr a ↦ (let r = some_one (unnamed_fault g image) [] (unnamed_pads g profile side) e a in
-              let u = where_some (option_map_or takes_out (taken g image r.0.number r.0.kind.mode) false) (UnnamedPad r.0.tile.name r.0.kind.name) e r.1.1 in
-              let t = tested_from takes_out (taken g image r.0.number r.0.kind.mode) u.0 in
+              let u = where_some (option_map_or takes_out (take_at g image r.0.number r.0.kind.mode) false) (UnnamedPad r.0.tile.name r.0.kind.name) e r.1.1 in
+              let t = tested_from takes_out (take_at g image r.0.number r.0.kind.mode) u.0 in
               subst (IsRefused g profile image side) u.1 (r.0, (r.1.0, (refl, (refl, t.1.0 ∙ ap (λ x. Some x) (out_is t.0 t.1.1))))))
         ]
       ]
@@ -347,10 +347,10 @@ err_from (Some f) x e h = let same : f ≡ e = cc in ap (λ z. Some z) same
 abbrev all_cells : Graph → Profile → Bits → Side → Cells
 all_cells g profile image side = record { slices = slice_cells g profile image side; pads = pad_cells g profile side }
 
-pub accepted_cells : (g : Graph) (profile : Profile) (image : Bits) (side : Side) → IsAccepted g profile image side → cells_of g profile image side ≡ Ok (all_cells g profile image side)
+pub accepted_cells : (g : Graph) (profile : Profile) (image : Bits) (side : Side) → CellsAreAccepted g profile image side → cells_of g profile image side ≡ Ok (all_cells g profile image side)
 accepted_cells g profile image side h = ok_to (cell_fault g profile image side) (all_cells g profile image side) (accepted_none g profile image side h)
 
-pub cells_accepted : (g : Graph) (profile : Profile) (image : Bits) (side : Side) (cells : Cells) → cells_of g profile image side ≡ Ok cells → IsAccepted g profile image side
+pub cells_accepted : (g : Graph) (profile : Profile) (image : Bits) (side : Side) (cells : Cells) → cells_of g profile image side ≡ Ok cells → CellsAreAccepted g profile image side
 cells_accepted g profile image side cells h = none_accepted g profile image side (ok_from (cell_fault g profile image side) (all_cells g profile image side) cells h).0
 
 pub cells_refused : (g : Graph) (profile : Profile) (image : Bits) (side : Side) (e : CellFault) → cells_of g profile image side ≡ Err e → IsRefused g profile image side e

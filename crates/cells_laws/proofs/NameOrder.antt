@@ -5,8 +5,8 @@ use Rattle.std.specs.declared.cmp.Ordering.TheVariants.{Less, Equal, Greater}
 use Rattle.std.specs.Ordering.{ordering_reverse, match_ordering}
 use Rattle.std.specs.Cmp.Lexicographic.{nat_list_cmp_total}
 use Rattle.words.specs.Members.{In}
+use Rattle.words.specs.Ordered.{put_in_order, in_order, IsInOrder}
 use Rattle.fabric.specs.Wires.{name_cmp}
-use Rattle.cells.specs.NameOrder.{put_by_name, in_name_order, IsInNameOrder}
 
 -- a name that comes after none of two comes not after the later one either
 not_after : (a b c : List ℕ) → name_cmp a b ≢ Greater → name_cmp b c ≢ Greater → name_cmp a c ≢ Greater
@@ -28,37 +28,37 @@ not_after a b c p q = go (name_cmp a b) (name_cmp b c) refl refl
     go Less Equal e f = λ h. absurd (no_less (nat_list_cmp_total.antisymm a c) (nat_list_cmp_total.congr b c a f) e h)
 
 module _ {X : Type 0} (name : X → List ℕ) where
-  put_from : (x : X) (ys : List X) (z : X) → In (put_by_name name x ys) z → (x ≡ z) ⊎ In ys z
+  put_from : (x : X) (ys : List X) (z : X) → In (put_in_order name x ys) z → (x ≡ z) ⊎ In ys z
   put_from x [] z i = i
   put_from x (y ∷ ys) z i = go (name_cmp (name x) (name y)) i (put_from x ys z)
     where
-      go : (o : Ordering) → In (match_ordering o (x ∷ y ∷ ys) (x ∷ y ∷ ys) (y ∷ put_by_name name x ys)) z → (In (put_by_name name x ys) z → (x ≡ z) ⊎ In ys z)
+      go : (o : Ordering) → In (match_ordering o (x ∷ y ∷ ys) (x ∷ y ∷ ys) (y ∷ put_in_order name x ys)) z → (In (put_in_order name x ys) z → (x ≡ z) ⊎ In ys z)
           → (x ≡ z) ⊎ In (y ∷ ys) z
       go Less k ih = k
       go Equal k ih = k
       go Greater k ih = elim k [ inl e ↦ inr (inl e) | inr j ↦ elim (ih j) [ inl e ↦ inl e | inr l ↦ inr (inr l) ] ]
 
-  put_to : (x : X) (ys : List X) (z : X) → (x ≡ z) ⊎ In ys z → In (put_by_name name x ys) z
+  put_to : (x : X) (ys : List X) (z : X) → (x ≡ z) ⊎ In ys z → In (put_in_order name x ys) z
   put_to x [] z i = i
   put_to x (y ∷ ys) z i = go (name_cmp (name x) (name y)) (put_to x ys z)
     where
-      go : (o : Ordering) → ((x ≡ z) ⊎ In ys z → In (put_by_name name x ys) z) → In (match_ordering o (x ∷ y ∷ ys) (x ∷ y ∷ ys) (y ∷ put_by_name name x ys)) z
+      go : (o : Ordering) → ((x ≡ z) ⊎ In ys z → In (put_in_order name x ys) z) → In (match_ordering o (x ∷ y ∷ ys) (x ∷ y ∷ ys) (y ∷ put_in_order name x ys)) z
       go Less ih = i
       go Equal ih = i
       go Greater ih = elim i [ inl e ↦ inr (ih (inl e)) | inr j ↦ elim j [ inl e ↦ inl e | inr l ↦ inr (ih (inr l)) ] ]
 
-  pub ordered_from : (xs : List X) (z : X) → In (in_name_order name xs) z → In xs z
+  pub ordered_from : (xs : List X) (z : X) → In (in_order name xs) z → In xs z
   ordered_from [] z i = i
-  ordered_from (x ∷ xs) z i = elim (put_from x (in_name_order name xs) z i) [ inl e ↦ inl e | inr j ↦ inr (ordered_from xs z j) ]
+  ordered_from (x ∷ xs) z i = elim (put_from x (in_order name xs) z i) [ inl e ↦ inl e | inr j ↦ inr (ordered_from xs z j) ]
 
-  pub ordered_to : (xs : List X) (z : X) → In xs z → In (in_name_order name xs) z
+  pub ordered_to : (xs : List X) (z : X) → In xs z → In (in_order name xs) z
   ordered_to [] z i = i
-  ordered_to (x ∷ xs) z i = put_to x (in_name_order name xs) z (elim i [ inl e ↦ inl e | inr j ↦ inr (ordered_to xs z j) ])
+  ordered_to (x ∷ xs) z i = put_to x (in_order name xs) z (elim i [ inl e ↦ inl e | inr j ↦ inr (ordered_to xs z j) ])
 
-  pub name_order_members : (xs : List X) (x : X) → In (in_name_order name xs) x ↔ In xs x
+  pub name_order_members : (xs : List X) (x : X) → In (in_order name xs) x ↔ In xs x
   name_order_members xs x = (ordered_from xs x, ordered_to xs x)
 
-  put_ordered : (x : X) (ys : List X) → IsInNameOrder name ys → IsInNameOrder name (put_by_name name x ys)
+  put_ordered : (x : X) (ys : List X) → IsInOrder name ys → IsInOrder name (put_in_order name x ys)
   put_ordered x [] r = ((λ y i. absurd i), tt)
   put_ordered x (y ∷ ys) r = go (name_cmp (name x) (name y)) refl (put_ordered x ys r.1)
     where
@@ -77,12 +77,12 @@ module _ {X : Type 0} (name : X → List ℕ) where
         | inr j ↦ r.0 z j
       ]
 
-      go : (o : Ordering) → name_cmp (name x) (name y) ≡ o → IsInNameOrder name (put_by_name name x ys)
-          → IsInNameOrder name (match_ordering o (x ∷ y ∷ ys) (x ∷ y ∷ ys) (y ∷ put_by_name name x ys))
+      go : (o : Ordering) → name_cmp (name x) (name y) ≡ o → IsInOrder name (put_in_order name x ys)
+          → IsInOrder name (match_ordering o (x ∷ y ∷ ys) (x ∷ y ∷ ys) (y ∷ put_in_order name x ys))
       go Less e ih = (before (λ h. (let no : ⊥ = cc in no)), r)
       go Equal e ih = (before (λ h. (let no : ⊥ = cc in no)), r)
       go Greater e ih = ((λ z i. behind e z (put_from x ys z i)), ih)
 
-  pub name_order : (xs : List X) → IsInNameOrder name (in_name_order name xs)
+  pub name_order : (xs : List X) → IsInOrder name (in_order name xs)
   name_order [] = tt
-  name_order (x ∷ xs) = put_ordered x (in_name_order name xs) (name_order xs)
+  name_order (x ∷ xs) = put_ordered x (in_order name xs) (name_order xs)

@@ -13,7 +13,7 @@ use Rattle.records.specs.Side.{Placed}
 use Rattle.fabric.specs.Graph.{Graph}
 use Rattle.fabric.specs.Image.{tile_named}
 use Rattle.cells.specs.Sites.{Site, site_in, site_at, slice_site, pad_site}
-use Rattle.cells.specs.Standing.{StandsAt, SliceStandsAt, PadStandsAt, TilesApart, KindsApart}
+use Rattle.cells.specs.Standing.{StandsAtSite, SliceStandsAt, PadStandsAt, TilesApart, KindsApart}
 use Rattle.fabric_laws.proofs.Members.{find_from, find_to}
 use Rattle.fabric_laws.proofs.Numbered.{get_in, at_position, position_there}
 use Rattle.cells_laws.proofs.Options.{mapped_from, mapped_to, then_from, then_to}
@@ -32,7 +32,7 @@ module _ {K : Type 0} (g : Graph) (kinds : List K) (type_of name_of : K → List
   abbrev made : ℕ → Tile → K → ℕ × ℕ → Site K
   made n tile kind place = record { number = n; tile = tile; kind = kind }
 
-  pub site_stands : (s : Site K) → option_and_then (site_at g kind_in) (tile_named g p.tile) ≡ Some s → StandsAt g kinds type_of name_of p s
+  pub site_stands : (s : Site K) → option_and_then (site_at g kind_in) (tile_named g p.tile) ≡ Some s → StandsAtSite g kinds type_of name_of p s
   site_stands s h =
       let a = then_from (site_at g kind_in) (tile_named g p.tile) s h in
       let b = then_from (λ tile. option_and_then (site_in a.0 tile) (kind_in tile)) (slice_get g.grid.tiles a.0) s a.1.1 in
@@ -42,7 +42,7 @@ module _ {K : Type 0} (g : Graph) (kinds : List K) (type_of name_of : K → List
       let same : t.0 ≡ b.0 = same_Some t.0 b.0 (sym t.1.0 ∙ b.1.0) in
       let k = find_from (fits b.0) kinds c.0 c.1.0 in
       let f = and_parts (bytes_eq (type_of c.0) b.0.kind) (bytes_eq (name_of c.0) p.kind) k.1 in
-      subst (StandsAt g kinds type_of name_of p) d.1.1 (record {
+      subst (StandsAtSite g kinds type_of name_of p) d.1.1 (record {
         in_grid = b.1.0;
         tile_name = subst (λ u. u.name ≡ p.tile) same ((bytes_eq-Decides t.0.name p.tile).0 t.1.1);
         place = d.0;
@@ -52,7 +52,7 @@ module _ {K : Type 0} (g : Graph) (kinds : List K) (type_of name_of : K → List
         kind_name = (bytes_eq-Decides (name_of c.0) p.kind).0 f.1;
       })
 
-  pub stands_site : (s : Site K) → TilesApart g → KindsApart type_of name_of kinds → StandsAt g kinds type_of name_of p s
+  pub stands_site : (s : Site K) → TilesApart g → KindsApart type_of name_of kinds → StandsAtSite g kinds type_of name_of p s
       → option_and_then (site_at g kind_in) (tile_named g p.tile) ≡ Some s
   stands_site s tiles_apart kinds_apart h =
       let there = position_there is_tile g.grid.tiles s.tile (get_in g.grid.tiles s.number s.tile h.in_grid) ((bytes_eq-Decides s.tile.name p.tile).1 h.tile_name) in
@@ -66,7 +66,7 @@ module _ {K : Type 0} (g : Graph) (kinds : List K) (type_of name_of : K → List
       (then_to (λ tile. option_and_then (site_in s.number tile) (kind_in tile)) (slice_get g.grid.tiles s.number) s.tile s h.in_grid
       (then_to (site_in s.number s.tile) (kind_in s.tile) s.kind s found (mapped_to (made s.number s.tile s.kind) s.tile.place h.place h.has_place)))
     where
-      only : {s : Site K} → StandsAt g kinds type_of name_of p s → KindsApart type_of name_of kinds → (k : K) → In kinds k → fits s.tile k ≡ true → k ≡ s.kind
+      only : {s : Site K} → StandsAtSite g kinds type_of name_of p s → KindsApart type_of name_of kinds → (k : K) → In kinds k → fits s.tile k ≡ true → k ≡ s.kind
       only {s} h apart k i e =
           let parts = and_parts (bytes_eq (type_of k) s.tile.kind) (bytes_eq (name_of k) p.kind) e in
           apart k s.kind i h.listed ((bytes_eq-Decides (type_of k) s.tile.kind).0 parts.0 ∙ sym h.of_type) ((bytes_eq-Decides (name_of k) p.kind).0 parts.1 ∙ sym h.kind_name)

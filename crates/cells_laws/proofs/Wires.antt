@@ -9,7 +9,7 @@ use Rattle.records.specs.Profile.{RegisterKind, SliceKind, PadKind}
 use Rattle.records.specs.Side.{Placed}
 use Rattle.links.proofs.Members.{in_left, in_right, in_either, in_map, in_flat_map, of_flat_map}
 use Rattle.fabric.specs.Wires.{Wire, same_wire}
-use Rattle.fabric.specs.Device.{Device, database_of, fixed_at, output_names, input_names, slices_at, pads_at, choice_names}
+use Rattle.fabric.specs.Device.{Device, database_at, fixed_at, output_names, input_names, slices_at, pads_at, choice_names}
 use Rattle.fabric.specs.TileWires.{wire_in, mux_wires, fixed_wires, tile_wires}
 use Rattle.fabric.specs.Graph.{Graph}
 use Rattle.fabric.specs.GraphOf.{number_of, IsGraph}
@@ -20,16 +20,16 @@ use Rattle.fabric_laws.proofs.Orders.{same_wire_refl}
 use Rattle.fabric_laws.proofs.Standing.{stands}
 use Rattle.cells.specs.Sites.{Site}
 use Rattle.cells.specs.Standing.{SliceStandsAt, PadStandsAt, slice_wires, pad_wires}
-use Rattle.cells.specs.Takes.{wire_at}
+use Rattle.cells.specs.Takes.{wire_number}
 use Rattle.cells_laws.proofs.Options.{then_to}
 
 module _ (device : Device) (g : Graph) (is : IsGraph device g) where
   -- a name that a tile gives to cells has a number, where it stands for a wire
   named_numbered : (tile : Tile) (name : List ℕ) (w : Wire) → In device.grid.tiles tile → In (output_names device tile ++ input_names device tile) name
-      → wire_in device.profile.rules tile name ≡ Some w → StandsFor device g tile name (wire_at g device.profile.rules tile name)
+      → wire_in device.profile.rules tile name ≡ Some w → StandsFor device g tile name (wire_number g device.profile.rules tile name)
   named_numbered tile name w i j e =
       let cells = filter_map (wire_in device.profile.rules tile) (output_names device tile ++ input_names device tile) in
-      let others = flat_map (mux_wires device.profile.rules tile) (database_of device.types tile).muxes ++ flat_map (fixed_wires device.profile.rules tile) (fixed_at device tile) in
+      let others = flat_map (mux_wires device.profile.rules tile) (database_at device.types tile).muxes ++ flat_map (fixed_wires device.profile.rules tile) (fixed_at device tile) in
       let here = in_right others cells w (in_filter_map_to (wire_in device.profile.rules tile) (output_names device tile ++ input_names device tile) name w j e) in
       let listed = (is.wires.members w).1 (in_flat_map (tile_wires device) device.grid.tiles tile w i here) in
       let n = position_there (same_wire w) g.wires w listed (same_wire_refl w) in
@@ -88,21 +88,21 @@ module _ (device : Device) (g : Graph) (is : IsGraph device g) where
   in_device number tile e = subst (λ grid. In grid.tiles tile) is.grid (get_in g.grid.tiles number tile e)
 
   slice_numbered : (p : Placed) (s : Site SliceKind) (name : List ℕ) (w : Wire) → SliceStandsAt g device.profile p s → In (slice_wires s.kind) name
-      → wire_in device.profile.rules s.tile name ≡ Some w → StandsFor device g s.tile name (wire_at g device.profile.rules s.tile name)
+      → wire_in device.profile.rules s.tile name ≡ Some w → StandsFor device g s.tile name (wire_number g device.profile.rules s.tile name)
   slice_numbered p s name w h i e =
       let kind = in_filter_to (λ k. bytes_eq k.tile s.tile.kind) device.profile.slices s.kind h.listed ((bytes_eq-Decides s.kind.tile s.tile.kind).1 h.of_type) in
       named_numbered s.tile name w (in_device s.number s.tile h.in_grid) (slice_named s.tile s.kind name kind i) e
 
   pad_numbered : (p : Placed) (s : Site PadKind) (name : List ℕ) (w : Wire) → PadStandsAt g device.profile p s → In (pad_wires s.kind) name
-      → wire_in device.profile.rules s.tile name ≡ Some w → StandsFor device g s.tile name (wire_at g device.profile.rules s.tile name)
+      → wire_in device.profile.rules s.tile name ≡ Some w → StandsFor device g s.tile name (wire_number g device.profile.rules s.tile name)
   pad_numbered p s name w h i e =
       let kind = in_filter_to (λ k. bytes_eq k.tile s.tile.kind) device.profile.pads s.kind h.listed ((bytes_eq-Decides s.kind.tile s.tile.kind).1 h.of_type) in
       named_numbered s.tile name w (in_device s.number s.tile h.in_grid) (pad_named s.tile s.kind name kind i) e
 
 pub slices_numbered : (device : Device) (g : Graph) → IsGraph device g → (p : Placed) (s : Site SliceKind) (name : List ℕ) (w : Wire) → SliceStandsAt g device.profile p s
-    → In (slice_wires s.kind) name → wire_in device.profile.rules s.tile name ≡ Some w → StandsFor device g s.tile name (wire_at g device.profile.rules s.tile name)
+    → In (slice_wires s.kind) name → wire_in device.profile.rules s.tile name ≡ Some w → StandsFor device g s.tile name (wire_number g device.profile.rules s.tile name)
 slices_numbered device g is p s name w h i e = slice_numbered device g is p s name w h i e
 
 pub pads_numbered : (device : Device) (g : Graph) → IsGraph device g → (p : Placed) (s : Site PadKind) (name : List ℕ) (w : Wire) → PadStandsAt g device.profile p s
-    → In (pad_wires s.kind) name → wire_in device.profile.rules s.tile name ≡ Some w → StandsFor device g s.tile name (wire_at g device.profile.rules s.tile name)
+    → In (pad_wires s.kind) name → wire_in device.profile.rules s.tile name ≡ Some w → StandsFor device g s.tile name (wire_number g device.profile.rules s.tile name)
 pads_numbered device g is p s name w h i e = pad_numbered device g is p s name w h i e

@@ -2,17 +2,16 @@
 //! with an empty body.
 #![tactic(auto)]
 
-ghost use Rattle.cells.specs.Accepted.{IsAccepted, IsRefused};
+ghost use Rattle.cells.specs.Accepted.{CellsAreAccepted, IsRefused};
 ghost use Rattle.cells.specs.CaseCounts.{Counts};
 ghost use Rattle.cells.specs.CellsOf.{IsPadOf, IsSliceOf, cells_of, pad_cells, slice_cells};
 ghost use Rattle.cells.specs.Faults.{CellFault};
-ghost use Rattle.cells.specs.NameOrder.{IsInNameOrder, in_name_order};
 ghost use Rattle.cells.specs.Readings.{pads_of, slices_of};
 ghost use Rattle.cells.specs.Resolved.{word_of};
 ghost use Rattle.cells.specs.Shapes.{HaveEqualShape, equal_shape};
 ghost use Rattle.cells.specs.Sites.{Site, pad_site, slice_site};
 ghost use Rattle.cells.specs.Standing.{KindsApart, PadStandsAt, SliceStandsAt, TilesApart, pad_wires, slice_wires};
-ghost use Rattle.cells.specs.Takes.{case_of, wire_at};
+ghost use Rattle.cells.specs.Takes.{case_of, wire_number};
 ghost use Rattle.circuit.specs.Cells.{Cells, PadCell, SliceCell};
 ghost use Rattle.circuit.specs.Designs.{placed_members};
 ghost use Rattle.circuit.specs.Triples.{Member};
@@ -29,11 +28,12 @@ ghost use Rattle.records.specs.Side.{Placed, Side};
 ghost use Rattle.std.specs.Int.{bit_at};
 ghost use Rattle.std.specs.Prelude.{if◌then◌else◌, map, slice_get, true, Bool, Err, List, Ok, Some, ℕ, ◌≡◌, ◌↔◌};
 ghost use Rattle.words.specs.Members.{In};
+ghost use Rattle.words.specs.Ordered.{IsInOrder, in_order};
 
 /// Name order keeps the elements of a list, and no name stands before one that it comes after.
 pub fn name_order_is_right<X>()
-    ensures members { (name : X → List ℕ) (xs : List X) (x : X) → In (in_name_order name xs) x ↔ In xs x }
-    ensures order { (name : X → List ℕ) (xs : List X) → IsInNameOrder name (in_name_order name xs) }
+    ensures members { (name : X → List ℕ) (xs : List X) (x : X) → In (in_order name xs) x ↔ In xs x }
+    ensures order { (name : X → List ℕ) (xs : List X) → IsInOrder name (in_order name xs) }
 {}
 
 /// The site of a placed cell is the one at which it stands, where tiles and kinds have names of their own.
@@ -51,10 +51,10 @@ pub fn equal_shape_is_exact()
 
 /// There are cells exactly where nothing is refused; and where a fault is named, what it names is wrong.
 pub fn faults_are_right()
-    ensures accepted { (g : Graph) (profile : Profile) (image : Bits) (side : Side) → IsAccepted g profile image side
+    ensures accepted { (g : Graph) (profile : Profile) (image : Bits) (side : Side) → CellsAreAccepted g profile image side
         → cells_of g profile image side ≡ Ok (record { slices = slice_cells g profile image side; pads = pad_cells g profile side }) }
     ensures only_accepted { (g : Graph) (profile : Profile) (image : Bits) (side : Side) (cells : Cells) → cells_of g profile image side ≡ Ok cells
-        → IsAccepted g profile image side }
+        → CellsAreAccepted g profile image side }
     ensures refused { (g : Graph) (profile : Profile) (image : Bits) (side : Side) (fault : CellFault) → cells_of g profile image side ≡ Err fault
         → IsRefused g profile image side fault }
 {}
@@ -80,9 +80,9 @@ pub fn words_have_their_bits()
 /// names, where these aren't names of another chip.
 pub fn wires_of_kinds_have_numbers()
     ensures slices { (device : Device) (g : Graph) → IsGraph device g → (p : Placed) (s : Site SliceKind) (name : List ℕ) (w : Wire) → SliceStandsAt g device.profile p s
-        → In (slice_wires s.kind) name → wire_in device.profile.rules s.tile name ≡ Some w → StandsFor device g s.tile name (wire_at g device.profile.rules s.tile name) }
+        → In (slice_wires s.kind) name → wire_in device.profile.rules s.tile name ≡ Some w → StandsFor device g s.tile name (wire_number g device.profile.rules s.tile name) }
     ensures pads { (device : Device) (g : Graph) → IsGraph device g → (p : Placed) (s : Site PadKind) (name : List ℕ) (w : Wire) → PadStandsAt g device.profile p s
-        → In (pad_wires s.kind) name → wire_in device.profile.rules s.tile name ≡ Some w → StandsFor device g s.tile name (wire_at g device.profile.rules s.tile name) }
+        → In (pad_wires s.kind) name → wire_in device.profile.rules s.tile name ≡ Some w → StandsFor device g s.tile name (wire_number g device.profile.rules s.tile name) }
 {}
 
 /// The case that is found for a choice is the one that counts.

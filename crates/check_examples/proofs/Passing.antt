@@ -7,7 +7,8 @@ use Rattle.fabric_laws.specs.PlainGraph.{graph_of}
 use Rattle.fabric_laws.proofs.Members.{all_from, any_from, imp_from}
 use Rattle.fabric_laws.proofs.Graphs.{has_graph}
 use Rattle.fabric_laws.proofs.Agreeing.{agreeing}
-use Rattle.links.proofs.Below.{has, has_in, below, below_complete}
+use Rattle.links.proofs.Below.{has_in, below_complete}
+use Rattle.links.specs.Below.{has, below}
 use Rattle.circuit.specs.Parts.{Source, sources}
 use Rattle.circuit.specs.Pins.{Pin, pins}
 use Rattle.circuit.specs.Circuits.{Circuit}

@@ -2,6 +2,7 @@
 -- feeds it, whether two pins are fed alike and whether a table is a voter.
 use Rattle.std.proofs.Common.{◌≡◌, ℕ, inl, inr, refl, ap, subst, ◌∙◌}
 use Rattle.words.specs.Members.{In}
+use Rattle.words.proofs.Decided.{Decided, both}
 use Rattle.records.specs.Side.{Domain}
 use Rattle.circuit.specs.Parts.{Table, PartRef}
 use Rattle.circuit.specs.Pins.{Pin, pins}
@@ -13,7 +14,6 @@ use Rattle.circuit.specs.Triplicated.{FedByClock, IsVoter}
 use Rattle.links.proofs.Members.{any_of}
 use Rattle.circuit_laws.proofs.Same.{same_name, same_part, same_group}
 use Rattle.circuit_laws.proofs.Sound.{Sound, at_pin, to_pin, source_same, feed_at, has_domain, domain_is}
-use Rattle.upset_laws.proofs.Decided.{Decided, both}
 use Rattle.check_laws.proofs.Passing.{same_domain, is_clock}
 
 module _ (c : Circuit) (ok : Sound c) where

@@ -8,6 +8,7 @@ pub mod RoutingRules
 pub mod Overlaps
 pub mod CopyRules
 pub mod TableRules
+pub mod FilesParsed
 pub mod Reading
 pub mod Texts
 pub mod Accepted

@@ -12,7 +12,7 @@ use Rattle.upset.specs.Safe.{IsSafe}
 use Rattle.repair.specs.Layouts.{Layout, configured}
 use Rattle.attempts.specs.Turns.{Cut}
 use Rattle.attempts.specs.Jobs.{Job, State}
-use Rattle.attempts.specs.Starts.{IsStart}
+use Rattle.attempts.specs.Starts.{IsFirstState}
 use Rattle.attempts.specs.Attempts.{Event, End, Ending, Routed, NoRoute, Answer, Standing, Ended, IsAnswer}
 use Rattle.answers.specs.Answers as status
 use Rattle.answers.specs.Refusals.{Refusal}
@@ -105,9 +105,9 @@ module _ (files : Files) where
     ends_differ log others y n e net pin cut h = (let wrong : ⊥ = cc in wrong)
 
     one_standing : (d e : Design) (g h : Graph) (c x : Cells) (s t : State) (bad others : List report.BadPlace) → IsAccepted files inputs d g c → IsAccepted files inputs e h x
-        → IsStart (job_of d g c w) s → IsStart (job_of e h x w) t → AreBadPlaces (configured s.layout) bad → AreBadPlaces (configured t.layout) others → bad ≡ others
+        → IsFirstState (job_of d g c w) s → IsFirstState (job_of e h x w) t → AreBadPlaces (configured s.layout) bad → AreBadPlaces (configured t.layout) others → bad ≡ others
     one_standing d e g h c x s t bad others a b p q are be = one_list_of_bad (configured t.layout) bad others
-        (subst (λ (z : State). AreBadPlaces (configured z.layout) bad) (one_start (job_of e h x w) s t (subst (λ (z : Found). IsStart (job w z) s) (one_found inputs d e g h c x a b) p) q) are) be
+        (subst (λ (z : State). AreBadPlaces (configured z.layout) bad) (one_start (job_of e h x w) s t (subst (λ (z : Found). IsFirstState (job w z) s) (one_found inputs d e g h c x a b) p) q) are) be
 
     one_hardened : (g h : Graph) (log others : List Event) (y z : Layout) (m n : ℕ) → g ≡ h → Ended log (Routed y m) ≡ Ended others (Routed z n) → hardened g w log y m ≡ hardened h w others z n
     one_hardened g h log others y z m n graphs same =

@@ -6,13 +6,13 @@ use Rattle.std.specs.Ordering.{nat_cmp}
 use Rattle.std.proofs.lemmas.Bool.Decides.{nat_tests}
 use Rattle.std.proofs.lemmas.List.Sums.{sum_by-cons}
 use Rattle.words.specs.Members.{In}
+use Rattle.words.specs.Twice.{HasNoneTwice}
 use Rattle.fabric.specs.Device.{Device}
 use Rattle.fabric.specs.Graph.{Graph}
 use Rattle.fabric.specs.GraphOf.{outputs_of, IsGraph}
 use Rattle.answers.specs.Refusals.{OverlapShape}
 use Rattle.design_checks.specs.Checks.{Passes, IsLeast}
 use Rattle.design_checks.specs.GraphChecks.{IsOutputTwice, Overlap, overlap}
-use Rattle.formed_laws.specs.Twice.{HasNoneTwice}
 use Rattle.formed_laws.specs.Designs.{NoOverlap}
 use Rattle.check_laws.proofs.Least.{no_least_number}
 use Rattle.check_laws.proofs.RoutingRules.{site_output_wire}

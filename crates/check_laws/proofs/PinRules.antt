@@ -3,6 +3,7 @@
 use Rattle.std.proofs.Common.{◌≡◌, ℕ, List, set, ◌⊎◌, inl, inr, map, Some, refl, ap, subst, ◌∙◌, true, false}
 use Rattle.std.specs.Prelude.{slice_get}
 use Rattle.words.specs.Members.{In}
+use Rattle.words.proofs.Decided.{Decided, both}
 use Rattle.records.specs.Side.{Domain}
 use Rattle.links.specs.Links.{Fed}
 use Rattle.fabric.specs.Wires.{Wire}
@@ -23,7 +24,6 @@ use Rattle.links.proofs.Members.{any_of, same_number, in_map, in_either}
 use Rattle.links.proofs.Feeds.{is_fed}
 use Rattle.circuit_laws.proofs.Parts.{bit_pin_listed, clock_pin_listed, pad_pin_listed}
 use Rattle.circuit_laws.proofs.Sound.{Sound, FeedsFrom, to_pin, at_pin, source_same, feed_at}
-use Rattle.upset_laws.proofs.Decided.{Decided, both}
 use Rattle.check_laws.specs.Accepted.{FeedsAreModelled}
 use Rattle.check_laws.proofs.Least.{no_least}
 use Rattle.check_laws.proofs.Orders.{part_total, pin_total}

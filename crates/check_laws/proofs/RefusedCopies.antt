@@ -12,7 +12,7 @@ use Rattle.circuit.specs.Circuits.{Circuit}
 use Rattle.circuit.specs.Triplicated.{OpenPinsIgnored}
 use Rattle.answers.specs.Refusals.{CopiesDiffer}
 use Rattle.design_checks.specs.Checks.{IsLeast}
-use Rattle.design_checks.specs.CopyChecks.{part_in, FeedsTable, Gives, output, unread, TablesDiffer, digit_cmp, digits_text, Field, InSet, InData, InEnable, InReset, InClock, fields_before, field_text, IsFirstField, DifferIn, in_tables, in_registers, in_outputs, CopiesUnlike, unlike}
+use Rattle.design_checks.specs.CopyChecks.{part_in, FeedsTable, Gives, output, unread, TablesDiffer, digit_cmp, digits_or_dash, Field, InSet, InData, InEnable, InReset, InClock, fields_before, field_text, IsFirstField, DifferIn, in_tables, in_registers, in_outputs, CopiesUnlike, unlike}
 use Rattle.links.proofs.Members.{in_left}
 use Rattle.circuit_laws.proofs.Sound.{Sound}
 use Rattle.check_laws.specs.Accepted.{FeedsAreModelled}
@@ -147,13 +147,13 @@ module _ (c : Circuit) (ok : Sound c) (modelled : FeedsAreModelled c) (ignored :
   one_what _ _ _ _ (in_tables t m digits outputs i d l) (in_tables u n others texts j h k) e =
       of_tables (one_triple t u (Table m) (Table n) i j e) (table_number m n (kinds_of t.first u.first (Table m) (Table n) e))
     where
-      of_tables : t ≡ u → m ≡ n → digits_text digits ++ codes " " ++ outputs ≡ digits_text others ++ codes " " ++ texts
+      of_tables : t ≡ u → m ≡ n → digits_or_dash digits ++ codes " " ++ outputs ≡ digits_or_dash others ++ codes " " ++ texts
       of_tables a b =
           let least : IsLeast (slice_cmp digit_cmp) (DigitsDiffer u n) digits = subst (λ (z : Triple). IsLeast (slice_cmp digit_cmp) (DigitsDiffer z n) digits) a (subst (λ z. IsLeast (slice_cmp digit_cmp) (DigitsDiffer t z) digits) b l) in
           let same : digits ≡ others = one_least (slice_cmp digit_cmp) digits_total digits_same (DigitsDiffer u n) digits others least k in
           let moved : TablesDiffer c u n others outputs = subst (λ z. TablesDiffer c u n z outputs) same (subst (λ (z : Triple). TablesDiffer c z n digits outputs) a (subst (λ z. TablesDiffer c t z digits outputs) b d)) in
           let out : outputs ≡ texts = one_text u n others outputs texts moved h in
-          λ x. digits_text (same x) ++ codes " " ++ out x
+          λ x. digits_or_dash (same x) ++ codes " " ++ out x
   one_what _ _ _ _ (in_registers t m f i d) (in_registers u n g j h) e =
       of_registers (one_triple t u (Register m) (Register n) i j e) (register_number m n (kinds_of t.first u.first (Register m) (Register n) e))
     where

@@ -4,6 +4,7 @@ use Rattle.std.specs.Prelude.{slice_get, ◌==◌}
 use Rattle.std.specs.Ordering.{nat_cmp}
 use Rattle.std.specs.Str.{bytes_eq}
 use Rattle.words.specs.Members.{In}
+use Rattle.words.proofs.Decided.{Decided}
 use Rattle.patterns.specs.Bits.{Bits}
 use Rattle.patterns.specs.Fits.{has_plain_bit}
 use Rattle.records.specs.Database.{Fixed}
@@ -27,7 +28,6 @@ use Rattle.fabric_laws.proofs.Standing.{stands, arc_stands}
 use Rattle.fabric_laws.proofs.Chosen.{links_law}
 use Rattle.fabric_laws.proofs.Agreeing.{line_listed}
 use Rattle.cells_laws.proofs.Options.{mapped_from, mapped_to, then_from, then_to}
-use Rattle.upset_laws.proofs.Decided.{Decided}
 use Rattle.check_laws.proofs.Least.{excluded, no_least, no_least_number}
 use Rattle.check_laws.proofs.Orders.{mux_total}
 

@@ -20,9 +20,9 @@ use Rattle.circuit.specs.Tables.{Assigned, TablesAlike}
 use Rattle.circuit.specs.Triplicated.{ReadPart, OpenPinsIgnored}
 use Rattle.attempts.specs.PinOrder.{part_cmp}
 use Rattle.design_checks.specs.Checks.{Passes}
-use Rattle.design_checks.specs.CopyChecks.{first_part, part_in, FeedsTable, AreFeeders, Gives, output, unread, TablesDiffer, digit_cmp, digits_text, in_tables, CopiesUnlike}
+use Rattle.design_checks.specs.CopyChecks.{first_part, part_in, FeedsTable, AreFeeders, Gives, output, unread, TablesDiffer, digit_cmp, digits_or_dash, in_tables, CopiesUnlike}
 use Rattle.links.proofs.Members.{in_left, in_right, in_map, of_map}
-use Rattle.fabric_laws.specs.Insertion.{in_order}
+use Rattle.fabric_laws.specs.Insertion.{sorted_once}
 use Rattle.fabric_laws.proofs.Sorted.{determined, sorted}
 use Rattle.circuit_laws.proofs.Parts.{Fits, kind_fits, table_bit, table_path, bit_pin_listed}
 use Rattle.circuit_laws.proofs.Refs as refs
@@ -193,7 +193,7 @@ module _ (c : Circuit) (ok : Sound c) (modelled : FeedsAreModelled c) (ignored :
     with_feeders : ((fs : List PartTriple) → AreFeeders c t number fs → ⊥) → ⊥
     with_feeders found = listed_of (FeedsTable c t number) triples (λ ys are.
         let o = sorted feeder_cmp feeder_total ys (λ a b i j h. triples_tie a b ((are a).0 i).0 ((are b).0 j).0 h) in
-        found (in_order feeder_cmp ys) (record {
+        found (sorted_once feeder_cmp ys) (record {
           rising = o.rising;
           members = λ f. ((λ i. ((are f).0 ((o.members f).0 i)).1), (λ h. (o.members f).1 ((are f).1 (feeder_listed f h, h))));
         }))
@@ -206,7 +206,7 @@ module _ (c : Circuit) (ok : Sound c) (modelled : FeedsAreModelled c) (ignored :
     module _ (pass : Passes (CopiesUnlike c)) (is_slices : In c.side.triples t) where
       none_of : (fs : List PartTriple) → AreFeeders c t number fs → (digits : List Bool) (text : List ℕ) → TablesDiffer c t number digits text → ⊥
       none_of fs are digits text d = no_least (slice_cmp digit_cmp) digits_total (λ other. (what : List ℕ) × TablesDiffer c t number other what) (digit_lists (length fs)) listed
-          (λ other l. none_differ c ok pass (part_in t.first (Table number)) (digits_text other ++ codes " " ++ l.has.0) (in_tables t number other l.has.0 is_slices l.has.1 l)) digits (text, d)
+          (λ other l. none_differ c ok pass (part_in t.first (Table number)) (digits_or_dash other ++ codes " " ++ l.has.0) (in_tables t number other l.has.0 is_slices l.has.1 l)) digits (text, d)
         where
           listed : (other : List Bool) → (what : List ℕ) × TablesDiffer c t number other what → In (digit_lists (length fs)) other
           listed other h = digits_listed (length fs) other (ap (λ (z : List Bool). length z) (sym h.1.assigned) ∙ (length_map h.1.bits h.1.feeders ∙ ap (λ (z : List PartTriple). length z) (one_list h.1.feeders fs h.1.are are)))

@@ -12,7 +12,7 @@ ghost use Rattle.commands.specs.Commands.{Command, Inputs};
 ghost use Rattle.design_answers.specs.Outcomes.{Outcome};
 ghost use Rattle.design_answers.specs.RunOutcomes.{IsCommandOutcome};
 ghost use Rattle.design_checks.specs.Checks.{Passes};
-ghost use Rattle.design_checks.specs.DesignChecks.{DesignRefused, IsAccepted, IsFirstRefusal, configured_as};
+ghost use Rattle.design_checks.specs.DesignChecks.{DesignRefused, IsFirstRefusal, configured_as, Accepted, its_configured};
 ghost use Rattle.design_checks.specs.GraphChecks.{graph_size_refusal};
 ghost use Rattle.design_checks.specs.LineChecks.{line_refusal};
 ghost use Rattle.design_files.specs.Designs.{Design};
@@ -29,46 +29,49 @@ ghost use Rattle.upset.specs.Safe.{IsMuxFault, IsSafe};
 /// An accepted design is read, its routing is clean, its arcs agree, its pins are fed from named cells alone, and its
 /// circuit is triplicated. So is any design that passes the checks, of a profile and a side file that are read.
 pub fn accepted_design_is_sound()
-    ensures accepted { (files : Files) (inputs : Inputs) (design : Design) (g : Graph) (cells : Cells) → IsAccepted files inputs design g cells
-        → IsSound design.device design.config (configured_as design g cells) }
-    ensures passing { (design : Design) (g : Graph) (cells : Cells) → IsReadProfile design.device.profile → IsReadSide design.side → IsGraph design.device g
-        → cells_of g design.device.profile (image_of g design.config) design.side ≡ Ok cells → Passes (DesignRefused design g)
+    ensures accepted { (files : Files) (inputs : Inputs) (a : Accepted files inputs)
+        → IsSound a.design.device a.design.config (its_configured a) }
+    ensures passing { (design : Design) (g : Graph) (cells : Cells)
+        → IsReadProfile design.device.profile → IsReadSide design.side → IsGraph design.device g
+        → cells_of g design.device.profile (image_of g design.config) design.side ≡ Ok cells
+        → Passes (DesignRefused design g)
         → IsSound design.device design.config (configured_as design g cells) }
 {}
 
 /// An accepted design that is safe keeps each output pad outside one domain right after the flip of a routing-mux bit,
 /// so at least two of each three.
 pub fn accepted_design_is_masked()
-    ensures { (files : Files) (inputs : Inputs) (design : Design) (g : Graph) (cells : Cells) → IsAccepted files inputs design g cells
-        → let k = configured_as design g cells in IsSafe k → (f : Fault) → IsMuxFault k f
+    ensures { (files : Files) (inputs : Inputs) (a : Accepted files inputs)
+        → let k = its_configured a in IsSafe k → (f : Fault) → IsMuxFault k f
         → ((d : Domain) × RightOutside (circuit_of k) f d) × TwoAreRight (circuit_of k) f }
 {}
 
 /// Inputs that are accepted have no refusal.
 pub fn never_both()
-    ensures { (files : Files) (inputs : Inputs) (design : Design) (g : Graph) (cells : Cells) (r : Refusal) → IsAccepted files inputs design g cells
-        → IsFirstRefusal files inputs r → ⊥ }
+    ensures { (files : Files) (inputs : Inputs) → Accepted files inputs → (r : Refusal) → IsFirstRefusal files inputs r → ⊥ }
 {}
 
 /// Inputs without a refusal are accepted.
 pub fn unrefused_is_accepted()
-    ensures { (files : Files) (inputs : Inputs) → ((r : Refusal) → IsFirstRefusal files inputs r → ⊥)
-        → (design : Design) × ((g : Graph) × ((cells : Cells) × IsAccepted files inputs design g cells)) }
+    ensures { (files : Files) (inputs : Inputs) → ((r : Refusal) → IsFirstRefusal files inputs r → ⊥) → Accepted files inputs }
 {}
 
 /// Inputs have one first refusal at most.
 pub fn one_first_refusal()
-    ensures { (files : Files) (inputs : Inputs) (r s : Refusal) → IsFirstRefusal files inputs r → IsFirstRefusal files inputs s → r ≡ s }
+    ensures { (files : Files) (inputs : Inputs) (r s : Refusal)
+        → IsFirstRefusal files inputs r → IsFirstRefusal files inputs s → r ≡ s }
 {}
 
 /// A sound design passes all checks, where its graph is within its limits and each line names what is there.
 pub fn sound_design_passes()
-    ensures { (design : Design) (g : Graph) (cells : Cells) → IsSound design.device design.config (configured_as design g cells) → graph_size_refusal g ≡ None
-        → line_refusal g design.config ≡ None → Passes (DesignRefused design g) }
+    ensures { (design : Design) (g : Graph) (cells : Cells)
+        → IsSound design.device design.config (configured_as design g cells)
+        → graph_size_refusal g ≡ None → line_refusal g design.config ≡ None → Passes (DesignRefused design g) }
 {}
 
 /// A command has one outcome at most, one over files and one that makes its design: its status, what it prints and what
 /// it writes.
 pub fn one_outcome()
-    ensures { (files : Files) (command : Command) (o p : Outcome) → IsCommandOutcome files command o → IsCommandOutcome files command p → o ≡ p }
+    ensures { (files : Files) (command : Command) (o p : Outcome)
+        → IsCommandOutcome files command o → IsCommandOutcome files command p → o ≡ p }
 {}

@@ -35,8 +35,8 @@ pub record IsConnection (c : Circuit) (x : Connection) : Type 0 where
   pub from : source.part ≡ x.source
   pub to : pin.ref ≡ x.pin
 
--- a table reads a part: that part's output feeds one of its pins
-pub record Reads (c : Circuit) (u s : Source) : Type 0 where
+-- part u is read by table s: its output feeds one of the pins of the table
+pub record IsReadBy (c : Circuit) (u s : Source) : Type 0 where
   pub table : TableCell
   pub is_table : s.kind ≡ OfTable table
   pub listed : In (sources c.cells) s

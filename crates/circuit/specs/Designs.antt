@@ -32,17 +32,17 @@ shape_of cells = record { slices = map slice_shape cells.slices; pads = map pad_
 abbrev pub placed_members : List Placed → List Member
 placed_members ps = map (λ p. record { name = p.name; domain = p.domain }) ps
 
--- two side files are the same but for tiles and kinds
+-- two side files are the same but for tiles and kinds of slices: pads never move
 pub record SameSide (a b : Side) : Type 0 where
   pub slices : placed_members a.slices ≡ placed_members b.slices
-  pub pads : placed_members a.pads ≡ placed_members b.pads
+  pub pads : a.pads ≡ b.pads
   pub triples : a.triples ≡ b.triples
   pub inputs : a.inputs ≡ b.inputs
   pub outputs : a.outputs ≡ b.outputs
   pub clocks : a.clocks ≡ b.clocks
   pub voters : a.voters ≡ b.voters
 
--- two circuits have the same side file but for sites, the same cells but for wires, and the same connections
+-- two circuits have the same side file but for sites of slices, the same cells but for wires, and the same connections
 pub record SameDesign (c e : Circuit) : Type 0 where
   pub sides : SameSide c.side e.side
   pub parts : shape_of c.cells ≡ shape_of e.cells

@@ -14,3 +14,4 @@ pub mod Registers
 pub mod Triplicated
 pub mod Right
 pub mod Designs
+pub mod Sound

@@ -64,3 +64,14 @@ pub record IsRun (c : Circuit) (f : Fault) (start : PartTriple → Bool) (input 
   pub starts : 0 < n → IsStart c start (run 0)
   pub cycles : (t : ℕ) → t < n → IsCycle c f (input t) (run t)
   pub steps : (t : ℕ) → suc t < n → IsStep c f (run t) (run (suc t))
+
+-- What a run begins with, what it is given, and how long it is: a common start, a bit for each input triple in each
+-- cycle, and a number of cycles.
+pub record Course : Type 0 where
+  pub start : PartTriple → Bool
+  pub input : ℕ → Triple → Bool
+  pub cycles : ℕ
+
+-- a run of a course under a fault
+abbrev pub IsRunOf : Circuit → Fault → Course → (ℕ → World) → Type 0
+IsRunOf c f course run = IsRun c f course.start course.input course.cycles run

@@ -23,13 +23,13 @@ abbrev pub Assigned : Circuit → (PartTriple → Bool) → Source → TableCell
 Assigned c bits s t x = (p : Pin) (a : Source) → In (table_pins s.part t) p → Connects c a p → x p ≡ bits (triple_of c.side a.part)
 
 -- the same bits but at pins fed from a domain
-abbrev pub SameBut : Circuit → Domain → Source → TableCell → (Pin → Bool) → (Pin → Bool) → Type 0
-SameBut c e s t x y = (p : Pin) → In (table_pins s.part t) p → (HasDomain c p.wire e → ⊥) → x p ≡ y p
+abbrev pub SameBitsBut : Circuit → Domain → Source → TableCell → (Pin → Bool) → (Pin → Bool) → Type 0
+SameBitsBut c e s t x y = (p : Pin) → In (table_pins s.part t) p → (HasDomain c p.wire e → ⊥) → x p ≡ y p
 
 -- For each assignment of bits to the triples that feed the table and each domain other than its own, the output
 -- stays when the pins fed from that domain take any bits.
 abbrev pub Masks : Circuit → Source → TableCell → Type 0
-Masks c s t = (e : Domain) (bits : PartTriple → Bool) (x y : Pin → Bool) → e ≢ s.domain → Assigned c bits s t x → SameBut c e s t x y
+Masks c s t = (e : Domain) (bits : PartTriple → Bool) (x y : Pin → Bool) → e ≢ s.domain → Assigned c bits s t x → SameBitsBut c e s t x y
     → table_output s.part t x ≡ table_output s.part t y
 
 -- two tables give equal outputs for each assignment of bits to the triples that feed them

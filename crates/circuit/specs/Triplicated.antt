@@ -8,7 +8,7 @@ use Rattle.circuit.specs.Cells.{TableCell, RegisterCell, PadCell}
 use Rattle.circuit.specs.Parts.{PartRef, Table, OfTable, OfRegister, OfClock, Source, sources, output_pads}
 use Rattle.circuit.specs.Pins.{Pin, bit_pins, clock_pins, source_pins, pad_pin}
 use Rattle.circuit.specs.Triples.{IsEntry, all_triples, triple_of, LiesIn}
-use Rattle.circuit.specs.Circuits.{Circuit, Connects, IsRead, Reads}
+use Rattle.circuit.specs.Circuits.{Circuit, Connects, IsRead, IsReadBy}
 use Rattle.circuit.specs.Domains.{HasDomain}
 use Rattle.circuit.specs.Tables.{Ignores, Masks, TablesAlike}
 use Rattle.circuit.specs.Registers.{FedAlike, RegistersAlike}
@@ -75,7 +75,7 @@ HasOutputs c = (t : Triple) × In c.side.outputs t
 
 -- No table reaches itself along connections through tables. (Each part that reaches itself in this way is a table.)
 abbrev pub NoTableLoop : Circuit → Type 0
-NoTableLoop c = (s u : Source) → Reads c s u → Reaches (Reads c) u s → ⊥
+NoTableLoop c = (s u : Source) → IsReadBy c s u → Reaches (IsReadBy c) u s → ⊥
 
 pub record IsTriplicated (c : Circuit) : Type 0 where
   pub entries : EntriesInDomain c

@@ -6,7 +6,7 @@ use Rattle.records.specs.Side.{D0, D1, D2}
 use Rattle.circuit.specs.Parts.{Pad, Source, table_source, register_source}
 use Rattle.circuit.specs.Pins.{Pin, pin_at}
 use Rattle.circuit.specs.Domains.{HasDomain}
-use Rattle.circuit.specs.Tables.{SameBut}
+use Rattle.circuit.specs.Tables.{SameBitsBut}
 use Rattle.circuit.specs.Triplicated.{ReadPart, TablesMask, OpenPinsIgnored, FedByClock, ClocksAreClocks, CopiesAlike}
 use Rattle.circuit_laws.proofs.Sound.{Sound, to_pin, has_domain}
 use Rattle.circuit_examples.specs.Toggle.{b, c, d, ck, f, toggle_table, toggle_register, toggle_slice, toggle_with, toggle_unclocked, inverted_majority}
@@ -51,7 +51,7 @@ unfolding ones
 fails_masking masks =
     let t = toggle_with 0x1F1F in
     let from_copy_1 : HasDomain t (c 1) D1 = has_domain t (toggle_sound 0x1F1F) a1_register (c 1) (feeds_is t (toggle_sound 0x1F1F).formed.outputs.listed a1_register (c 1) (inr (inr (inr (inl refl)))) refl) in
-    let same : SameBut t D1 (a0_table 0x1F1F) (toggle_table 1 0x1F1F) ones but_one = λ p i away. elim i [
+    let same : SameBitsBut t D1 (a0_table 0x1F1F) (toggle_table 1 0x1F1F) ones but_one = λ p i away. elim i [
       | inl e ↦ subst (λ z. true ≡ but_one z) e refl
       | inr i ↦ elim i [
         | inl e ↦ subst (λ z. true ≡ but_one z) e refl

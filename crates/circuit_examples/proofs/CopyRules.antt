@@ -8,7 +8,7 @@ use Rattle.circuit.specs.Cells.{Input, InputWire, InputNotWire, InputZero, Input
 use Rattle.circuit.specs.Parts.{PartRef, Kind, OfTable, OfRegister, Source, sources, output_pads}
 use Rattle.circuit.specs.Pins.{Pin, pin_at, bit_pins, clock_pins_of, input_pin, pad_pin, pins}
 use Rattle.circuit.specs.Triples.{names_of, IsEntry, triple_of}
-use Rattle.circuit.specs.Circuits.{Circuit, Reads}
+use Rattle.circuit.specs.Circuits.{Circuit, IsReadBy}
 use Rattle.circuit.specs.Registers.{FedAlike, TakesAlike, RegistersAlike}
 use Rattle.circuit.specs.Triplicated.{CopiesAlike, NoTableLoop, IsTriplicated}
 use Rattle.circuit_laws.proofs.Parts.{bit_pin_listed, clock_pin_listed, pad_pin_listed, table_bit, register_bit}
@@ -133,14 +133,14 @@ module _ (c : Circuit) (ok : Sound c) where
   abbrev flat_pin : Source → Pin → Bool
   flat_pin s p = implies (is_table s.kind) (list_all (λ a. implies (is_table a.kind) (not (feeds c a p.wire))) (sources c.cells))
 
-  flat : each_pin bit_pins flat_pin c ≡ true → (u s : Source) → Reads c u s → is_table u.kind ≡ true → ⊥
+  flat : each_pin bit_pins flat_pin c ≡ true → (u s : Source) → IsReadBy c u s → is_table u.kind ≡ true → ⊥
   flat e u s rd table =
       let ip = table_bit s rd.table rd.is_table rd.pin rd.takes in
       let none = implied (is_table s.kind) _ (pin_passes c bit_pins flat_pin e s rd.pin rd.listed ip) (ap is_table rd.is_table) in
       let away = implied (is_table u.kind) _ (all_in (λ (a : Source). implies (is_table a.kind) (not (feeds c a rd.pin.wire))) (sources c.cells) u none rd.connects.source) table in
       clash (feeds c u rd.pin.wire) (is_feeds c u rd.pin.wire (at_pin c u rd.pin rd.connects)) away
 
-  no_loop_at : each_pin bit_pins flat_pin c ≡ true → (s u : Source) → Reads c s u → {v : Source} → Reaches (Reads c) u v → s ≡ v → ⊥
+  no_loop_at : each_pin bit_pins flat_pin c ≡ true → (s u : Source) → IsReadBy c s u → {v : Source} → Reaches (IsReadBy c) u v → s ≡ v → ⊥
   no_loop_at e s u rd here same = flat e s u rd (ap (λ z. is_table z.kind) same ∙ ap is_table rd.is_table)
   no_loop_at e s u rd (onto q last) same = flat e s u rd (ap (λ z. is_table z.kind) same ∙ ap is_table last.is_table)
 

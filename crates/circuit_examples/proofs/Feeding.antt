@@ -5,7 +5,8 @@ use Rattle.words.specs.Members.{In}
 use Rattle.links.specs.Links.{Link, Routing, Fed, IsClean}
 use Rattle.circuit.specs.Parts.{Source, sources}
 use Rattle.circuit.specs.Circuits.{Circuit}
-use Rattle.links.proofs.Below.{has, has_in, in_has, below, below_sound, below_complete}
+use Rattle.links.proofs.Below.{has_in, in_has, below_sound, below_complete}
+use Rattle.links.specs.Below.{has, below}
 use Rattle.circuit_laws.proofs.Sound.{FeedsFrom}
 use Rattle.circuit_examples.proofs.Tests.{and_left, and_right, all_in, any_in, number_is, is_number, distinct, distinct_in, clash}
 

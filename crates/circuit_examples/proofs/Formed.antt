@@ -9,7 +9,8 @@ use Rattle.circuit.specs.Parts.{Source, sources}
 use Rattle.circuit.specs.Triples.{names_of, IsEntry, all_triples, triple_with, Member, members}
 use Rattle.circuit.specs.Circuits.{Circuit}
 use Rattle.circuit.specs.WellFormed.{NamesApart, OutputsApart, IsSlice, IsPad, TriplesFit, SizesFit, IsWellFormed}
-use Rattle.links.proofs.Below.{has, in_has}
+use Rattle.links.proofs.Below.{in_has}
+use Rattle.links.specs.Below.{has}
 use Rattle.circuit_examples.proofs.Tests.{and_left, and_right, implies, implied, all_in, any_in, any_at, number_is, is_number, name_eq, name_is, is_name, triple_eq, triple_is, is_triple, distinct, distinct_in, clash, no_false}
 
 module _ (c : Circuit) where

@@ -13,7 +13,8 @@ use Rattle.circuit.specs.Domains.{HasDomain}
 use Rattle.circuit.specs.Worlds.{word_bit}
 use Rattle.circuit.specs.Tables.{Ignores}
 use Rattle.circuit.specs.Triplicated.{EntriesInDomain, OpenPinsIgnored, FedByClock, ClocksAreClocks, IsVoter, ReadsOwnDomain, TablesMask}
-use Rattle.links.proofs.Below.{has, has_in, below, below_complete}
+use Rattle.links.proofs.Below.{has_in, below_complete}
+use Rattle.links.specs.Below.{has, below}
 use Rattle.circuit_laws.proofs.Parts.{clock_pin_listed}
 use Rattle.circuit_laws.proofs.Sound.{Sound, FeedsFrom, at_pin, to_pin, has_domain}
 use Rattle.circuit_examples.proofs.Tests.{and_left, and_right, implies, implied, or_either, all_in, any_in, any_at, and_both, number_is, name_eq, name_is, domain_eq, domain_is, same_bit, bits_equal, all_bits, every, clash, no_false}

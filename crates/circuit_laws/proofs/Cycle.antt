@@ -6,7 +6,7 @@ use Rattle.records.specs.Side.{Triple}
 use Rattle.circuit.specs.Cells.{TableCell}
 use Rattle.circuit.specs.Parts.{PartRef, Kind, OfTable, OfRegister, OfInput, OfClock, Source, sources}
 use Rattle.circuit.specs.Pins.{Pin, bit_pins, table_pins}
-use Rattle.circuit.specs.Circuits.{Circuit, Reads}
+use Rattle.circuit.specs.Circuits.{Circuit, IsReadBy}
 use Rattle.circuit.specs.Worlds.{Value, Bit, World, CountsAs, carried_by, carried}
 use Rattle.circuit.specs.Faults.{Fault, no_fault}
 use Rattle.circuit.specs.Runs.{IsCycle}
@@ -50,7 +50,7 @@ read_at c s u p js ip f = record { listed = f.source; read = (p, to_pin c u p (b
 
 -- as is one that a table reads
 pub reads_at : (c : Circuit) (s u : Source) (t : TableCell) (p : Pin) → In (sources c.cells) s → s.kind ≡ OfTable t
-    → In (table_pins s.part t) p → FeedsFrom c u p.wire → Reads c u s
+    → In (table_pins s.part t) p → FeedsFrom c u p.wire → IsReadBy c u s
 reads_at c s u t p js ks ip f = record {
   table = t;
   is_table = ks;

@@ -6,7 +6,7 @@ use Rattle.links.specs.Links.{Reaches, here}
 use Rattle.circuit.specs.Cells.{TableCell}
 use Rattle.circuit.specs.Parts.{Kind, OfTable, OfRegister, OfInput, OfClock, Source, sources}
 use Rattle.circuit.specs.Pins.{Pin, table_pins}
-use Rattle.circuit.specs.Circuits.{Circuit, Reads}
+use Rattle.circuit.specs.Circuits.{Circuit, IsReadBy}
 use Rattle.circuit.specs.Triplicated.{NoTableLoop}
 use Rattle.links.proofs.Walks.{reaches_from}
 use Rattle.circuit_laws.proofs.Sound.{Sound, FeedsFrom, at_pin, to_pin, source_same, feed_at}
@@ -15,7 +15,7 @@ use Rattle.circuit_laws.proofs.Parts.{bit_pin_listed, table_bit, table_path}
 -- within k connections back from s nothing more is connected
 abbrev pub Deep : Circuit → ℕ → Source → Type 0
 Deep c zero s = ⊥
-Deep c (suc k) s = (u : Source) → Reads c u s → Deep c k u
+Deep c (suc k) s = (u : Source) → IsReadBy c u s → Deep c k u
 
 abbrev pub plus : ℕ → ℕ → ℕ
 plus zero k = k
@@ -77,7 +77,7 @@ module _ (c : Circuit) (ok : Sound c) (free : NoTableLoop c) where
       ]
 
   -- a part is deep where each part that it reads is
-  from_read : (s : Source) → In (sources c.cells) s → ((u : Source) → Reads c u s → (k : ℕ) × Deep c k u) → (k : ℕ) × Deep c k s
+  from_read : (s : Source) → In (sources c.cells) s → ((u : Source) → IsReadBy c u s → (k : ℕ) × Deep c k u) → (k : ℕ) × Deep c k s
   unfolding Bounds
   from_read s js deep = elim (table_of s.kind) [
     | inr h ↦ (1, λ u rd. absurd (h rd.table rd.is_table))
@@ -92,14 +92,14 @@ module _ (c : Circuit) (ok : Sound c) (free : NoTableLoop c) where
   ]
 
   from_nothing : (n : ℕ) (rest : List Source) → length rest ≡ n → (s : Source) → In (sources c.cells) s
-      → ((u : Source) → In (sources c.cells) u → In rest u ⊎ Reaches (Reads c) s u) → (k : ℕ) × Deep c k s
+      → ((u : Source) → In (sources c.cells) u → In rest u ⊎ Reaches (IsReadBy c) s u) → (k : ℕ) × Deep c k s
   from_nothing zero [] len s js all = from_read s js (λ u rd. elim (all u rd.connects.source) [ inl i ↦ absurd i | inr l ↦ absurd (free u s rd l) ])
   from_nothing zero (x ∷ xs) len s js all = absurd (let no : ⊥ = omega arith in no)
   from_nothing (suc n) rest len s js all = from_read s js (λ u rd. elim (all u rd.connects.source) [
     | inl i ↦ (let w = without rest u i in
         let shorter : length w.rest ≡ n = pred_same (length w.rest) n (sym w.shorter ∙ len) in
         from_nothing n w.rest shorter u rd.connects.source (λ x jx. elim (all x jx) [
-          | inl g ↦ elim (w.parts x g) [ inl e ↦ inr (subst (Reaches (Reads c) u) e here) | inr h ↦ inl h ]
+          | inl g ↦ elim (w.parts x g) [ inl e ↦ inr (subst (Reaches (IsReadBy c) u) e here) | inr h ↦ inl h ]
           | inr l ↦ inr (reaches_from rd l)
         ]))
     | inr l ↦ absurd (free u s rd l)

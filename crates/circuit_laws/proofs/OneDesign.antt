@@ -7,7 +7,7 @@ use Rattle.circuit.specs.Cells.{TableCell, Input, InputWire, InputNotWire, Input
 use Rattle.circuit.specs.Parts.{PartRef, Kind, OfTable, OfRegister, OfInput, OfClock, Pad, Source, numbered, sources, output_pads}
 use Rattle.circuit.specs.Pins.{PinRef, Pin, pin_at, input_pin, table_pins, data_pins, bit_pins, pad_pin, pins}
 use Rattle.circuit.specs.Triples.{PartTriple, is_entry, all_triples, triple_with, triple_of}
-use Rattle.circuit.specs.Circuits.{Circuit, Connects, Connection, Reads}
+use Rattle.circuit.specs.Circuits.{Circuit, Connects, Connection, IsReadBy}
 use Rattle.circuit.specs.Worlds.{Bit, World, word_bit, table_output, bit_of, carried_by}
 use Rattle.circuit.specs.Faults.{no_fault}
 use Rattle.circuit.specs.Runs.{IsCycle, IsStep, IsRun, taken}
@@ -98,7 +98,7 @@ module _ (c e : Circuit) (oc : Sound c) (oe : Sound e) (tc : IsTriplicated c) (t
         bits_same (v.wire p.wire) (w.wire q.wire) g.0 (bit_of v p) (bit_of w q) (steady c oc input v iv a p.wire fa ∙ (h ∙ sym (steady e oe input w iw b q.wire fb))) g.1 (iv.pins s p rs.listed ip) (iw.pins u q ju iq)
 
     AgreeAbove : Source → Type 0
-    AgreeAbove s = (a b : Source) → Reads c a s → ReadPart c a → ReadPart e b → a.part ≡ b.part → v.wire a.out ≡ w.wire b.out
+    AgreeAbove s = (a b : Source) → IsReadBy c a s → ReadPart c a → ReadPart e b → a.part ≡ b.part → v.wire a.out ≡ w.wire b.out
 
     -- a pin of a table counts as one bit in both, or the table ignores it
     table_pin_agrees : (s u : Source) (t x : TableCell) (p : Pin) → ReadPart c s → In (sources e.cells) u → s.part ≡ u.part

@@ -7,7 +7,7 @@ use Rattle.records.specs.Side.{Domain, Triple}
 use Rattle.circuit.specs.Cells.{TableCell, RegisterCell}
 use Rattle.circuit.specs.Parts.{Kind, OfTable, OfRegister, OfInput, OfClock, Source, sources}
 use Rattle.circuit.specs.Pins.{Pin, bit_pins, clock_pins, table_pins}
-use Rattle.circuit.specs.Circuits.{Circuit, Reads}
+use Rattle.circuit.specs.Circuits.{Circuit, IsReadBy}
 use Rattle.circuit.specs.Domains.{HasDomain}
 use Rattle.circuit.specs.Worlds.{Bit, World, bit_of, table_output, carried_by, carried}
 use Rattle.circuit.specs.Faults.{Fault, no_fault, FaultHas}
@@ -76,7 +76,7 @@ module _ (c : Circuit) (ok : Sound c) (tri : IsTriplicated c) (input : Triple �
   mixed p = choose p (is_fed c.routing p.wire)
 
   AgreesAbove : Source → Type 0
-  AgreesAbove s = (u : Source) → Reads c u s → ReadPart c u → u.domain ≢ d → v.wire u.out ≡ w.wire u.out
+  AgreesAbove s = (u : Source) → IsReadBy c u s → ReadPart c u → u.domain ≢ d → v.wire u.out ≡ w.wire u.out
 
   -- mixed bits are those of the undisturbed world but at pins fed from the domain
   mixed_undisturbed : (s : Source) (t : TableCell) (p : Pin) → ReadPart c s → s.kind ≡ OfTable t → In (table_pins s.part t) p

@@ -1,6 +1,7 @@
 -- The commands of the program, with what their words say. (Our own.)
 use Rattle.std.specs.Prelude.{ℕ, List}
 use Rattle.patterns.specs.Bits.{DeviceBit}
+use Rattle.records.specs.Ripping.{Rip}
 
 -- where the inputs of a design stand: the family's folder, the profile, the side file and the configuration
 pub record Inputs : Type 0 where
@@ -8,11 +9,6 @@ pub record Inputs : Type 0 where
   pub profile : List ℕ
   pub side : List ℕ
   pub config : List ℕ
-
--- which nets are ripped: those that a bad bit disturbs, or all but clock nets
-pub data Rip : Type 0 where
-  RipUnsafe : Rip
-  RipAll : Rip
 
 -- where `harden` writes, how many attempts it makes at most, and what it rips
 pub record Hardening : Type 0 where

@@ -4,6 +4,7 @@ use Rattle.std.specs.List.{list_any}
 use Rattle.std.specs.Option.{option_and_then}
 use Rattle.std.specs.Str.{bytes_eq}
 use Rattle.texts.specs.Numbers.{decimal_of}
+use Rattle.records.specs.Limits.{most_rounds}
 
 -- An option as it stands among the words: the number of the word that names it, its name, and the word behind it,
 -- which is its value whatever it is. None stands behind it where the words run out.
@@ -53,10 +54,6 @@ has_value value (Some other) = bytes_eq value other
 -- a value that an out option before it has
 abbrev pub is_out_value : List Allowed → List Given → List ℕ → Bool
 is_out_value allowed before value = list_any (λ g. is_out allowed g.name && has_value value g.value) before
-
--- the most attempts
-abbrev pub most_rounds : ℕ
-most_rounds = 256
 
 abbrev pub number_within : ℕ → ℕ → Option ℕ → Option ℕ
 number_within least most None = None

@@ -8,8 +8,10 @@ use Rattle.std.specs.Str.{bytes_eq}
 use Rattle.words.specs.Firsts.{first_fault}
 use Rattle.patterns.specs.Bits.{DeviceBit}
 use Rattle.texts.specs.Numbers.{decimal_of}
+use Rattle.records.specs.Limits.{most_blocks}
+use Rattle.records.specs.Ripping.{Rip, RipUnsafe, RipAll}
 use Rattle.commands.specs.BitWords.{bit_words}
-use Rattle.commands.specs.Commands.{Inputs, Rip, RipUnsafe, RipAll, Hardening, Command, Drivers, Check, Analyse, Harden, Run}
+use Rattle.commands.specs.Commands.{Inputs, Hardening, Command, Drivers, Check, Analyse, Harden, Run}
 use Rattle.commands.specs.Options.{Given, given_from, Kind, Text, OutName, Rounds, WhatToRip, Allowed, option_fault, lacks_one, value_given, rounds_of, number_within}
 
 abbrev pub needed : List ℕ → Kind → Allowed
@@ -69,10 +71,6 @@ hardening_of given = record {
 abbrev pub with_options : (List Given → Command) → Result (List Given) ℕ → Result Command ℕ
 with_options command (Ok given) = Ok (command given)
 with_options command (Err number) = Err number
-
--- the most blocks of `run`
-abbrev pub most_blocks : ℕ
-most_blocks = 2048
 
 abbrev pub run_of : Option ℕ → List (List ℕ) → Result Command ℕ
 run_of None words = Err 2

@@ -3,7 +3,8 @@
 #![tactic(auto)]
 
 ghost use Rattle.std.specs.Prelude.{◌≡◌, ◌∷◌, ◌++◌, [], Ok, Err, codes};
-ghost use Rattle.commands.specs.Commands.{Drivers, Check, Harden, Run, RipUnsafe, RipAll};
+ghost use Rattle.records.specs.Ripping.{RipUnsafe, RipAll};
+ghost use Rattle.commands.specs.Commands.{Drivers, Check, Harden, Run};
 ghost use Rattle.commands.specs.Examples.{check_line, harden_line};
 ghost use Rattle.commands.specs.Readings.{reading_of, all_commands};
 

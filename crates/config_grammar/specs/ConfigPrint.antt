@@ -1,23 +1,20 @@
 -- The text of a configuration: the device, the heads, and the sections of tiles with lines, an empty line before
 -- each. (After Project Trellis; the order is our own.)
-use Rattle.std.specs.Prelude.{ℕ, Bool, true, false, List, [], ◌∷◌, ◌++◌, map, reverse, codes, if◌then◌else◌}
+use Rattle.std.specs.Prelude.{ℕ, Bool, true, false, List, [], ◌∷◌, ◌++◌, reverse, codes, if◌then◌else◌}
 use Rattle.std.specs.List.{flat_map}
 use Rattle.std.specs.Fmt.{decimal}
+use Rattle.texts.specs.Printing.{line_of, bit_digits}
 use Rattle.records.specs.Config.{Head, ArcLine, WordLine, EnumLine, UnknownLine, TileText, Config}
 
--- words with a space between two, and a line feed
-abbrev pub line_of : List ℕ → List (List ℕ) → List ℕ
-line_of word words = word ++ flat_map (λ w. 32 ∷ w) words ++ 10 ∷ []
-
 -- the digits of bits, the highest first
-abbrev pub digits_text : List Bool → List ℕ
-digits_text bits = map (λ b. if b then 49 else 48) (reverse bits)
+abbrev pub word_digits : List Bool → List ℕ
+word_digits bits = bit_digits (reverse bits)
 
 abbrev pub arc_text : ArcLine → List ℕ
 arc_text a = line_of (codes "arc:") (a.sink ∷ a.source ∷ [])
 
 abbrev pub word_text : WordLine → List ℕ
-word_text w = line_of (codes "word:") (w.name ∷ digits_text w.bits ∷ [])
+word_text w = line_of (codes "word:") (w.name ∷ word_digits w.bits ∷ [])
 
 abbrev pub enum_text : EnumLine → List ℕ
 enum_text e = line_of (codes "enum:") (e.name ∷ e.value ∷ [])

@@ -3,13 +3,13 @@
 use Rattle.std.specs.Prelude.{ℕ, Bool, true, false, not, List, [], ◌∷◌, ◌++◌, length, map, filter, filter_map, Option, Some, None, Result, Ok, Err, nat_lt, if◌then◌else◌}
 use Rattle.std.specs.List.{list_any}
 use Rattle.std.specs.Str.{bytes_eq}
-use Rattle.words.specs.Firsts.{first_fault}
+use Rattle.words.specs.Firsts.{first_fault, fault_or}
+use Rattle.words.specs.Ordered.{in_order, in_order_once}
 use Rattle.texts.specs.Lines.{Line, lines_of}
-use Rattle.records.specs.Limits.{Limit, Tiles}
+use Rattle.records.specs.Limits.{Limit, Tiles, most_tiles}
 use Rattle.records.specs.Config.{ArcLine, TileText, Config}
 use Rattle.config_grammar.specs.ConfigLines.{ConfigLine, DeviceLine, HeadLine, TileLine, ArcOf, WordOf, EnumOf, UnknownOf, OutsideLine, says, is_skipped, words_in}
 use Rattle.config_grammar.specs.Sections.{Item, sections_of, heads_of, device_in}
-use Rattle.config_grammar.specs.Ordered.{in_order, in_order_once}
 
 -- why a configuration isn't read
 pub data ConfigFault : Type 0 where
@@ -42,13 +42,9 @@ abbrev pub is_none_yet : {X : Type 0} → List X → Bool
 is_none_yet [] = true
 is_none_yet (x ∷ xs) = false
 
--- the most sections
-abbrev pub most_sections : ℕ
-most_sections = 65536
-
 abbrev pub tile_fault : ℕ → List TileText → List ℕ → Option ConfigFault
 tile_fault number sections name =
-    if has_tile sections name then Some (BadLine number) else if nat_lt (length sections) most_sections then None else Some (TooLarge Tiles)
+    if has_tile sections name then Some (BadLine number) else if nat_lt (length sections) most_tiles then None else Some (TooLarge Tiles)
 
 -- The fault of a line with those before it: it says nothing, or what can't stand there: a second device, a second
 -- section of a tile, a tile's line outside a section.
@@ -81,11 +77,7 @@ abbrev pub with_device : List Item → List (List ℕ) → Result Config ConfigF
 with_device items [] = Err NoDevice
 with_device items (device ∷ more) = Ok (config_of device items)
 
-abbrev pub unless_fault : Option ConfigFault → Result Config ConfigFault → Result Config ConfigFault
-unless_fault None read = read
-unless_fault (Some fault) read = Err fault
-
 -- the configuration of a text, or its first fault; that no line names the device comes after all others
 abbrev pub configuration_of : List ℕ → Result Config ConfigFault
 configuration_of text =
-    let items = items_of text in unless_fault (first_fault item_fault items) (with_device items (devices_of items))
+    let items = items_of text in fault_or (first_fault item_fault items) (with_device items (devices_of items))

@@ -5,9 +5,9 @@ use Rattle.std.specs.declared.cmp.Ordering.TheVariants.{Less, Equal, Greater}
 use Rattle.std.specs.Ordering.{nat_cmp, ordering_then, match_ordering, is_eq}
 use Rattle.std.specs.BTreeMap.{insert_entry}
 use Rattle.std.specs.Cmp.Lexicographic.{slice_cmp, texts_ties, same_text}
+use Rattle.words.specs.Ordered.{put_once, in_order_once}
 use Rattle.texts.specs.Names.{is_name}
 use Rattle.records.specs.Config.{ArcLine}
-use Rattle.config_grammar.specs.Ordered.{put_once, in_order_once}
 use Rattle.config_grammar.specs.ConfigText.{arc_key}
 use Rattle.config_text.specs.Entries.{arc_at, arcs_at, AreSinks}
 use Rattle.config_text.proofs.Keys.{arc_order}

@@ -6,4 +6,5 @@ pub mod Whole
 pub mod Keys
 pub mod Arcs
 pub mod Ordered
+pub mod Ascending
 pub mod Lines

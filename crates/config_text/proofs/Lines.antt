@@ -2,12 +2,12 @@
 use Rattle.std.proofs.Common.{◌≡◌, ℕ, List, [], ◌∷◌, ◌++◌, Option, Some, None, Result, Ok, Err, Bool, true, false, not, cond, map, filter, refl, sym, ap, ◌∙◌, append_assoc}
 use Rattle.std.proofs.lemmas.List.{append-nil}
 use Rattle.std.proofs.lemmas.List.Elements.{filter_map-append}
-use Rattle.words.specs.Firsts.{first_fault_after, first_fault, or_else}
+use Rattle.words.specs.Firsts.{first_fault_after, first_fault, or_else, fault_or}
 use Rattle.texts.specs.Lines.{Line, lines_of}
 use Rattle.records.specs.Config.{Head, TileText}
 use Rattle.config_grammar.specs.ConfigLines.{ConfigLine, DeviceLine, HeadLine, TileLine, ArcOf, WordOf, EnumOf, UnknownOf, OutsideLine, words_in, is_skipped}
 use Rattle.config_grammar.specs.Sections.{Item, Behind, line_before, section_of, nothing_behind, behind_with, behind_of, sections_of, no_lines, head_before, heads_of, device_in}
-use Rattle.config_grammar.specs.ConfigText.{ConfigFault, item_of, items_of, devices_of, says_fault, item_fault, with_device, unless_fault, configuration_of}
+use Rattle.config_grammar.specs.ConfigText.{ConfigFault, item_of, items_of, devices_of, says_fault, item_fault, with_device, configuration_of}
 use Rattle.config_text.specs.LineByLine.{Reading, nothing_read, line_behind, sections_with, heads_with, devices_with, with_says, fault_behind, or_fault, item_step, line_step, go_on, read_lines, config_with, config_read}
 
 -- ---- sections
@@ -247,7 +247,7 @@ with_device_read : (items : List Item) (devices : List (List ℕ)) → with_devi
 with_device_read items [] = refl
 with_device_read items (device ∷ more) = refl
 
-with_config : (fault : Option ConfigFault) (items : List Item) → go_on (or_fault fault (read_as items)) config_read ≡ unless_fault fault (with_device items (devices_of items))
+with_config : (fault : Option ConfigFault) (items : List Item) → go_on (or_fault fault (read_as items)) config_read ≡ fault_or fault (with_device items (devices_of items))
 with_config None items = sym (with_device_read items (devices_of items))
 with_config (Some fault) items = refl
 

@@ -6,8 +6,8 @@ use Rattle.std.specs.Ordering.{nat_cmp, match_ordering, is_eq}
 use Rattle.std.specs.BTreeMap.{insert_entry}
 use Rattle.std.specs.Cmp.Lexicographic.{slice_cmp, texts_ties, nat_list_eq_equiv}
 use Rattle.std.specs.Str.{bytes_eq}
+use Rattle.words.specs.Ordered.{put_in_order, in_order}
 use Rattle.records.specs.Config.{TileText}
-use Rattle.config_grammar.specs.Ordered.{put_in_order, in_order}
 use Rattle.config_grammar.specs.ConfigText.{has_tile, section_in_order}
 use Rattle.config_text.specs.Entries.{tile_entries}
 use Rattle.config_text.specs.Known.{NoTileTwice}

@@ -4,3 +4,4 @@ pub mod LineByLine
 pub mod Known
 pub mod Entries
 pub mod Empty
+pub mod Ascending

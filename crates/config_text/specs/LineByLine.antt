@@ -1,11 +1,11 @@
 -- A configuration read line by line: what each line makes of what was read before it. It is how the program reads;
 -- that it gives what `configuration_of` says is a lemma.
 use Rattle.std.specs.Prelude.{ℕ, not, List, [], ◌∷◌, ◌++◌, map, Option, Some, None, Result, Ok, Err, if◌then◌else◌}
+use Rattle.words.specs.Ordered.{in_order}
 use Rattle.texts.specs.Lines.{Line}
 use Rattle.records.specs.Config.{Head, TileText, Config}
 use Rattle.config_grammar.specs.ConfigLines.{ConfigLine, DeviceLine, HeadLine, TileLine, ArcOf, WordOf, EnumOf, UnknownOf, OutsideLine, words_in, is_skipped}
 use Rattle.config_grammar.specs.Sections.{Item, no_lines}
-use Rattle.config_grammar.specs.Ordered.{in_order}
 use Rattle.config_grammar.specs.ConfigText.{ConfigFault, BadLine, OutsideBlock, NoDevice, bad_if, is_none_yet, tile_fault, item_of, section_in_order}
 
 -- what was read so far: the devices that were named, the heads, and the sections in input order

@@ -1,16 +1,20 @@
 //! Sections and arcs in written order.
 
-ghost use Rattle.std.specs.Prelude.{◌≡◌, List as Seq, false, map, IfOk, OnOk};
+ghost use Rattle.std.specs.Prelude.{◌≡◌, ◌&&◌, List as Seq, false, map, IfOk, OnOk};
 ghost use Rattle.std.specs.BTreeMap.{values};
+ghost use Rattle.words.specs.Ordered.{in_order, in_order_once, put_in_order, put_once};
+ghost use Rattle.std.specs.Ordering.{nat_cmp};
+ghost use Rattle.std.specs.Cmp.Lexicographic.{slice_cmp};
 ghost use Rattle.records.specs.Config.{TileText as TileRecord};
 ghost use Rattle.config_grammar.specs.ConfigText.{arc_key, has_tile, section_in_order as section_in_order_of};
-ghost use Rattle.config_grammar.specs.Ordered.{in_order, in_order_once, put_in_order, put_once};
 ghost use Rattle.config_text.specs.Entries.{arcs_at, AreSinks, tile_entries};
+ghost use Rattle.config_text.specs.Ascending.{goes_before as goes_before_of, are_ascending as are_ascending_of, are_placed as are_placed_of};
 ghost use Rattle.config_text.specs.Known.{NoTileTwice};
 
 use super::{ArcLine, TileText};
 use rr_ids::{List, Name, is_name};
 use std::alloc::{AllocError, Global};
+use std::cmp::Ordering;
 use std::collections::BTreeMap;
 
 // The numbers of arcs' lines, by sink and source. No byte of a name is as low as the space between the two, so the order
@@ -54,10 +58,49 @@ fn arcs_of(alloc: Global, numbers: ArcNumbers) -> Result<List<ArcLine>, AllocErr
     Ok(arcs)
 }
 
-// The arcs in byte order of their lines, of equal ones the first.
+// How the lines of two arcs stand in byte order.
+fn line_order(first: &ArcLine, second: &ArcLine) -> Ordering
+    ensures { result ≡ slice_cmp nat_cmp (arc_key first.now) (arc_key second.now) }
+{
+    // The order of pairs is that of lines, since the sinks are names.
+    prove!(is_name(first.sink.bytes()));
+    prove!(is_name(second.sink.bytes()));
+    let sinks = first.sink.cmp(&second.sink);
+    sinks.then(first.source.cmp(&second.source))
+}
+
+// Whether the line of an arc comes before that of the first of others.
+fn goes_before(arc: &ArcLine, others: &[ArcLine]) -> bool
+    ensures { result ≡ goes_before_of arc_key arc.now others.now }
+{
+    match others.first() {
+        Some(other) => line_order(arc, other).is_lt(),
+        None => true,
+    }
+}
+
+// Whether the line of each arc comes before that of the next.
+fn are_ascending(arcs: &[ArcLine]) -> bool
+    ensures { result ≡ are_ascending_of arcs.now }
+{
+    let mut rest = arcs;
+    while let Some((first, behind)) = rest.split_first() {
+        if !goes_before(first, behind) {
+            return false;
+        }
+        rest = behind;
+    }
+    true
+}
+
+// The arcs in byte order of their lines, of equal ones the first. Arcs of a tool's text stand in order already.
+#[tactic(auto, using(crate::proofs::Ascending::ascending_once))]
 fn arcs_in_order(alloc: Global, arcs: List<ArcLine>) -> Result<List<ArcLine>, AllocError>
     ensures { IfOk result (λ ordered. ordered ≡ in_order_once arc_key arcs) }
 {
+    if are_ascending(arcs.as_slice()) {
+        return Ok(arcs);
+    }
     arcs_of(alloc, numbers_of(alloc, arcs)?)
 }
 
@@ -123,8 +166,43 @@ fn sections_of(
     Ok(sections)
 }
 
+// Whether a section comes before the first of others, and its arcs stand in order.
+fn is_placed(section: &TileText, others: &[TileText]) -> bool
+    ensures { result ≡ (goes_before_of (λ t. t.tile) section.now others.now && are_ascending_of section.now.arcs) }
+{
+    if let Some(other) = others.first() {
+        if !section.tile.cmp(&other.tile).is_lt() {
+            return false;
+        }
+    }
+    are_ascending(section.arcs.as_slice())
+}
+
+// Whether sections and arcs stand in order.
+fn are_placed(sections: &[TileText]) -> bool
+    ensures { result ≡ are_placed_of sections.now }
+{
+    let mut rest = sections;
+    while let Some((first, behind)) = rest.split_first() {
+        if !is_placed(first, behind) {
+            return false;
+        }
+        rest = behind;
+    }
+    true
+}
+
+// The sections in order, where some stand elsewhere.
+fn sections_moved(alloc: Global, sections: List<TileText>) -> Result<List<TileText>, AllocError>
+    requires { NoTileTwice sections }
+    ensures { IfOk result (λ ordered. ordered ≡ in_order (λ t. t.tile) (map section_in_order_of sections)) }
+{
+    sections_of(alloc, sections_by_tile(alloc, sections)?)
+}
+
 /// The sections in byte order of their tiles' names, with the arcs of each in byte order of their lines and of equal ones
 /// the first. No tile may have two.
+#[tactic(auto, using(crate::proofs::Ascending::placed_same))]
 pub(crate) fn sections_in_order(
     alloc: Global,
     sections: List<TileText>,
@@ -132,5 +210,8 @@ pub(crate) fn sections_in_order(
     requires { NoTileTwice sections }
     ensures { IfOk result (λ ordered. ordered ≡ in_order (λ t. t.tile) (map section_in_order_of sections)) }
 {
-    sections_of(alloc, sections_by_tile(alloc, sections)?)
+    if are_placed(sections.as_slice()) {
+        return Ok(sections);
+    }
+    sections_moved(alloc, sections)
 }

@@ -3,6 +3,7 @@
 ghost use Rattle.std.specs.Prelude.{◌≡◌, ◌∷◌, ◌++◌, [], map, if◌then◌else◌, IfOk, OnOk};
 ghost use Rattle.std.specs.List.{flat_map};
 ghost use Rattle.std.specs.Fmt.{decimal};
+ghost use Rattle.texts.specs.Printing.{line_of};
 ghost use Rattle.config_grammar.specs.ConfigPrint as printed;
 ghost use Rattle.config_text.specs.Empty.{has_no_lines};
 
@@ -20,7 +21,7 @@ fn push_word(text: &mut Vec<u8>, word: &[u8]) -> Result<(), AllocError>
 
 // Adds a line of two words.
 fn push_line_of_two(text: &mut Vec<u8>, first: &[u8], second: &[u8]) -> Result<(), AllocError>
-    ensures { OnOk result (text.new.items ≡ text.old.items ++ printed.line_of first.now (second.now ∷ [])) }
+    ensures { OnOk result (text.new.items ≡ text.old.items ++ line_of first.now (second.now ∷ [])) }
 {
     text.extend_from_slice(first)?;
     push_word(text, second)?;
@@ -35,7 +36,7 @@ fn push_line_of_three(
     second: &[u8],
     third: &[u8],
 ) -> Result<(), AllocError>
-    ensures { OnOk result (text.new.items ≡ text.old.items ++ printed.line_of first.now (second.now ∷ third.now ∷ [])) }
+    ensures { OnOk result (text.new.items ≡ text.old.items ++ line_of first.now (second.now ∷ third.now ∷ [])) }
 {
     text.extend_from_slice(first)?;
     push_word(text, second)?;
@@ -65,7 +66,7 @@ fn digits_in_turn(alloc: Global, bits: &[bool]) -> Result<Vec<u8>, AllocError>
 
 // The digits of bits, the highest first.
 fn digits_of(alloc: Global, bits: &[bool]) -> Result<Vec<u8>, AllocError>
-    ensures { IfOk result (λ digits. digits.items ≡ printed.digits_text bits.now) }
+    ensures { IfOk result (λ digits. digits.items ≡ printed.word_digits bits.now) }
 {
     let mut digits = digits_in_turn(alloc, bits)?;
     digits.reverse();

@@ -5,7 +5,7 @@ use Rattle.records.specs.Database.{TileDb}
 use Rattle.answers.specs.Answers.{Done}
 use Rattle.answers.specs.Refusals.{Refusal}
 use Rattle.answers.specs.Drivers.{drivers_text}
-use Rattle.design_files.specs.Names.{most_database_bytes}
+use Rattle.records.specs.Limits.{most_database_bytes}
 use Rattle.design_files.specs.Parsed.{Files, parsed, read_database}
 use Rattle.design_answers.specs.Outcomes.{Outcome, refused}
 

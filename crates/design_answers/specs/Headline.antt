@@ -40,7 +40,6 @@ KeepsOutputsOf c k = (f : Fault) → IsMuxFault k f → ((d : Domain) × KeepsOu
 -- gives the outputs of the one that was read, and after any one flip at least two of each three outputs keep them forever.
 pub record Hardens (read written : Configured) : Type 0 where
   pub side : SameSide read.side written.side
-  pub pads : read.side.pads ≡ written.side.pads
   pub outputs : GivesOutputsOf (circuit_of read) (circuit_of written)
   pub masked : KeepsOutputsOf (circuit_of read) written
 

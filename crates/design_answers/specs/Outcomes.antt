@@ -8,15 +8,14 @@ use Rattle.config_grammar.specs.ConfigPrint.{config_text}
 use Rattle.side_form.specs.SidePrint.{side_text}
 use Rattle.upset.specs.Safe.{IsSafe}
 use Rattle.repair.specs.Layouts.{Layout, configured}
-use Rattle.repair.specs.Nets as nets
 use Rattle.attempts.specs.Turns.{Cut}
 use Rattle.attempts.specs.Jobs.{Job, State}
-use Rattle.attempts.specs.Starts.{IsStart}
+use Rattle.attempts.specs.Starts.{IsFirstState}
 use Rattle.attempts.specs.Attempts.{Event, End, Routed, NoRoute, Standing, Ended, IsAnswer}
 use Rattle.answers.specs.Answers as status
 use Rattle.answers.specs.Refusals.{Refusal}
 use Rattle.answers.specs.Texts.{refused_text}
-use Rattle.commands.specs.Commands.{Inputs, Hardening, Rip, RipUnsafe, RipAll, Command, Drivers, Check, Analyse, Harden, Run}
+use Rattle.commands.specs.Commands.{Inputs, Hardening, Command, Drivers, Check, Analyse, Harden, Run}
 use Rattle.reports.specs.Reports as report
 use Rattle.reports.specs.ReportTexts.{report_text}
 use Rattle.design_files.specs.Parsed.{Files}
@@ -53,16 +52,12 @@ inputs_of (Analyse inputs) = Some inputs
 inputs_of (Harden inputs hardening) = Some inputs
 inputs_of (Run blocks) = None
 
-abbrev pub ripped_by : Rip → nets.Rip
-ripped_by RipUnsafe = nets.RipUnsafe
-ripped_by RipAll = nets.RipAll
-
 abbrev pub layout_of : Design → Graph → Cells → Layout
 layout_of design g cells = record { graph = g; config = design.config; cells = cells; side = design.side }
 
 -- what a router is given for an accepted design
 abbrev pub job_of : Design → Graph → Cells → Hardening → Job
-job_of design g cells h = record { device = design.device; design = layout_of design g cells; rounds = h.rounds; rip = ripped_by h.rip }
+job_of design g cells h = record { device = design.device; design = layout_of design g cells; rounds = h.rounds; rip = h.rip }
 
 -- after attempts that ended with all connections routed: the text and the side file are written
 abbrev pub hardened : Graph → Hardening → List Event → Layout → ℕ → Outcome
@@ -94,7 +89,7 @@ pub data IsOutcome (files : Files) : Command → Outcome → Type 0 where
       → AreBadPlaces (configured_as design g cells) bad → bad ≢ [] → IsOutcome files (Analyse inputs) (printed status.Unsafe (report.Unsafe bad))
   -- `harden`: bits stand that no route can mend, or the attempts end with or without a routed text
   stands : {inputs : Inputs} {h : Hardening} {design : Design} {g : Graph} {cells : Cells} {state : State} {bad : List report.BadPlace} → IsAccepted files inputs design g cells
-      → IsAnswer (job_of design g cells h) Standing → IsStart (job_of design g cells h) state → AreBadPlaces (configured state.layout) bad
+      → IsAnswer (job_of design g cells h) Standing → IsFirstState (job_of design g cells h) state → AreBadPlaces (configured state.layout) bad
       → IsOutcome files (Harden inputs h) (printed status.Unsafe (report.Standing bad))
   hardens : {inputs : Inputs} {h : Hardening} {design : Design} {g : Graph} {cells : Cells} {log : List Event} {y : Layout} {connections : ℕ} → IsAccepted files inputs design g cells
       → IsAnswer (job_of design g cells h) (Ended log (Routed y connections)) → IsOutcome files (Harden inputs h) (hardened g h log y connections)

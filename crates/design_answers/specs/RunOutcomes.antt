@@ -2,13 +2,13 @@
 -- reads and writes no file. (Our own.)
 use Rattle.std.specs.Prelude.{◌≡◌, ℕ, List, length, Ok}
 use Rattle.patterns.specs.Bits.{DeviceBit}
+use Rattle.records.specs.Ripping.{RipAll}
 use Rattle.fabric.specs.Graph.{Graph}
 use Rattle.fabric.specs.GraphOf.{IsGraph}
 use Rattle.fabric.specs.Image.{image_of}
 use Rattle.circuit.specs.Cells.{Cells}
 use Rattle.cells.specs.CellsOf.{cells_of}
 use Rattle.repair.specs.Layouts.{Layout}
-use Rattle.repair.specs.Nets.{RipAll}
 use Rattle.attempts.specs.Turns.{Cut}
 use Rattle.attempts.specs.Jobs.{Job}
 use Rattle.attempts.specs.Attempts.{Event, End, Routed, NoRoute, Standing, Ended, IsAnswer}

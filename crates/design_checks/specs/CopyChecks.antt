@@ -5,6 +5,7 @@ use Rattle.std.specs.declared.cmp.Ordering.{Ordering}
 use Rattle.std.specs.declared.cmp.Ordering.TheVariants.{Less, Equal, Greater}
 use Rattle.std.specs.Cmp.Lexicographic.{slice_cmp}
 use Rattle.words.specs.Members.{In}
+use Rattle.texts.specs.Printing.{bit_digits}
 use Rattle.records.specs.Side.{Triple}
 use Rattle.fabric.specs.InOrder.{IsRising}
 use Rattle.circuit.specs.Cells.{TableCell, RegisterCell, PadCell}
@@ -80,9 +81,9 @@ digit_cmp true false = Greater
 digit_cmp true true = Equal
 
 -- a digit for each triple, or `-` where there is none
-abbrev pub digits_text : List Bool → List ℕ
-digits_text [] = codes "-"
-digits_text (b ∷ bs) = map (λ d. if d then 49 else 48) (b ∷ bs)
+abbrev pub digits_or_dash : List Bool → List ℕ
+digits_or_dash [] = codes "-"
+digits_or_dash (b ∷ bs) = bit_digits (b ∷ bs)
 
 -- ---- registers
 
@@ -149,7 +150,7 @@ OutputsDiffer c t =
 pub data DifferIn (c : Circuit) : PartRef → List ℕ → Type 0 where
   in_tables : (t : Triple) (number : ℕ) (digits : List Bool) (outputs : List ℕ) → In c.side.triples t → TablesDiffer c t number digits outputs
       → IsLeast (slice_cmp digit_cmp) (λ other. (text : List ℕ) × TablesDiffer c t number other text) digits
-      → DifferIn c (part_in t.first (Table number)) (digits_text digits ++ codes " " ++ outputs)
+      → DifferIn c (part_in t.first (Table number)) (digits_or_dash digits ++ codes " " ++ outputs)
   in_registers : (t : Triple) (number : ℕ) (field : Field) → In c.side.triples t → IsFirstField c t number field → DifferIn c (part_in t.first (Register number)) (field_text field)
   in_outputs : (t : Triple) → In c.side.outputs t → OutputsDiffer c t → DifferIn c (part_in t.first Pad) (codes "out")
 

@@ -67,3 +67,14 @@ pub record IsAccepted (files : Files) (inputs : Inputs) (design : Design) (g : G
   pub graph : IsGraph design.device g
   pub cells_there : cells_of g design.device.profile (image_of g design.config) design.side ≡ Ok cells
   pub passes : Passes (DesignRefused design g)
+
+-- a design that is accepted, with its graph and its cells
+pub record Accepted (files : Files) (inputs : Inputs) : Type 0 where
+  pub design : Design
+  pub graph : Graph
+  pub cells : Cells
+  pub is : IsAccepted files inputs design graph cells
+
+-- what it configures
+abbrev pub its_configured : {files : Files} {inputs : Inputs} → Accepted files inputs → Configured
+its_configured a = configured_as a.design a.graph a.cells

@@ -1,8 +1,8 @@
 -- The size of a graph, and cell outputs that stand twice. (Our own.)
-use Rattle.std.specs.Prelude.{◌≡◌, ℕ, ◌^◌, ◌≤◌, List, length, count_by, Option, Some, None, slice_get, nat_eq, nat_lt, codes, if◌then◌else◌}
+use Rattle.std.specs.Prelude.{◌≡◌, ℕ, ◌≤◌, List, length, count_by, Option, Some, None, slice_get, nat_eq, nat_lt, codes, if◌then◌else◌}
 use Rattle.std.specs.Ordering.{nat_cmp}
 use Rattle.words.specs.Firsts.{or_else}
-use Rattle.records.specs.Limits.{Limit, Wires, Muxes, Arcs, limit_name}
+use Rattle.records.specs.Limits.{Limit, Wires, Muxes, Arcs, limit_name, most_wires, most_muxes, most_arcs}
 use Rattle.fabric.specs.Wires.{Wire}
 use Rattle.fabric.specs.Device.{Device}
 use Rattle.fabric.specs.Graph.{Graph}
@@ -13,15 +13,6 @@ use Rattle.design_checks.specs.Checks.{IsLeast}
 -- the graph goes under this name, since it is no file
 abbrev pub graph_name : List ℕ
 graph_name = codes "graph"
-
-abbrev pub most_wires : ℕ
-most_wires = 2 ^ 24
-
-abbrev pub most_muxes : ℕ
-most_muxes = 2 ^ 23
-
-abbrev pub most_arcs : ℕ
-most_arcs = 2 ^ 25
 
 abbrev pub size_refusal : Limit → ℕ → ℕ → Option Refusal
 size_refusal limit most count = if nat_lt most count then Some (TooLarge graph_name (limit_name limit)) else None

@@ -10,7 +10,7 @@ use Rattle.circuit.specs.Pins.{Pin, table_pins}
 use Rattle.circuit.specs.Triples.{PartTriple}
 use Rattle.circuit.specs.Circuits.{Circuit}
 use Rattle.circuit.specs.Worlds.{address, table_output}
-use Rattle.circuit.specs.Tables.{Assigned, SameBut}
+use Rattle.circuit.specs.Tables.{Assigned, SameBitsBut}
 use Rattle.circuit.specs.Triplicated.{ReadPart}
 use Rattle.answers.specs.Refusals.{Refusal, NotMasking}
 use Rattle.attempts.specs.PinOrder.{part_cmp}
@@ -34,7 +34,7 @@ pub record FailsAt (c : Circuit) (part : PartRef) (reached : ℕ) : Type 0 where
   pub before : Pin → Bool
   pub after : Pin → Bool
   pub assigned : Assigned c bits source table before
-  pub same : SameBut c other source table before after
+  pub same : SameBitsBut c other source table before after
   pub open_pins : OpenAreZero c source table after
   pub at : address (map after (table_pins source.part table)) ≡ reached
   pub differs : table_output source.part table before ≢ table_output source.part table after

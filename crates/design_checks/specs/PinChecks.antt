@@ -9,7 +9,7 @@ use Rattle.fabric.specs.Graph.{Graph}
 use Rattle.circuit.specs.Cells.{PadCell, RegisterCell}
 use Rattle.circuit.specs.Parts.{PartRef, Source, OfRegister, sources, output_pads}
 use Rattle.circuit.specs.Pins.{PinRef, Pin, pins, pad_pin, bit_pins, clock_pins, source_pins}
-use Rattle.circuit.specs.Circuits.{Circuit, Reads}
+use Rattle.circuit.specs.Circuits.{Circuit, IsReadBy}
 use Rattle.circuit.specs.Domains.{HasDomain}
 use Rattle.circuit.specs.Tables.{Ignores}
 use Rattle.circuit.specs.Triplicated.{ReadPart, FedByClock, IsVoter}
@@ -39,8 +39,8 @@ pub record IsOnLoop (c : Circuit) (part : PartRef) : Type 0 where
   pub source : Source
   pub is : source.part ≡ part
   pub next : Source
-  pub reads : Reads c source next
-  pub back : Reaches (Reads c) next source
+  pub reads : IsReadBy c source next
+  pub back : Reaches (IsReadBy c) next source
 
 -- 29: the least table that reaches itself
 pub data TablesLoop (c : Circuit) : Refusal → Type 0 where

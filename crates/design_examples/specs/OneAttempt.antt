@@ -1,9 +1,10 @@
 -- What is written where the corridor gets one attempt alone, of which the eighth connection is blocked. (Our own.)
 use Rattle.std.specs.Prelude.{ℕ, List, [], ◌∷◌, codes}
+use Rattle.records.specs.Ripping.{RipAll}
 use Rattle.fabric.specs.Graph.{Graph}
 use Rattle.attempts.specs.Wires.{net_wire, pin_wire}
 use Rattle.attempts.specs.Attempts.{EndRounds, blocked_event}
-use Rattle.commands.specs.Commands.{Hardening, RipAll}
+use Rattle.commands.specs.Commands.{Hardening}
 use Rattle.design_answers.specs.Outcomes.{Outcome, not_routed}
 use Rattle.route_examples.specs.Corridors.{cut, eighth}
 use Rattle.route_examples.specs.Starting.{corridor_start}

@@ -6,11 +6,12 @@ use Rattle.records.specs.Grid.{Grid}
 use Rattle.records.specs.Profile.{Profile}
 use Rattle.records.specs.Side.{Side}
 use Rattle.records.specs.Config.{Config}
+use Rattle.records.specs.Limits.{most_config_bytes, most_json_bytes, most_database_bytes}
 use Rattle.fabric.specs.Device.{TypeDb, Device}
 use Rattle.json_forms.specs.Results.{◌>>=◌}
 use Rattle.answers.specs.Refusals.{Refusal}
 use Rattle.commands.specs.Commands.{Inputs}
-use Rattle.design_files.specs.Names.{most_config_bytes, most_json_bytes, most_database_bytes, grid_name, database_name, types_of}
+use Rattle.design_files.specs.Names.{grid_name, database_name, types_of}
 use Rattle.design_files.specs.Parsed.{Files, if_short, parsed, read_config, read_grid, read_profile, read_side, read_database}
 
 pub record Design : Type 0 where

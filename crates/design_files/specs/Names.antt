@@ -1,21 +1,8 @@
 -- Under which names the files of a design stand, and how long they may be. (The folder's layout is after Project
 -- Trellis; the limits are our own.)
-use Rattle.std.specs.Prelude.{ℕ, ◌*◌, List, ◌++◌, map, codes}
+use Rattle.std.specs.Prelude.{ℕ, List, ◌++◌, map, codes}
+use Rattle.words.specs.Ordered.{in_order_once}
 use Rattle.records.specs.Grid.{Grid}
-use Rattle.config_grammar.specs.Ordered.{in_order_once}
-
-abbrev pub mebibytes : ℕ → ℕ
-mebibytes n = n * 1024 * 1024
-
--- the most bytes of a configuration; of a grid, a profile and a side file; of a database
-abbrev pub most_config_bytes : ℕ
-most_config_bytes = mebibytes 256
-
-abbrev pub most_json_bytes : ℕ
-most_json_bytes = mebibytes 64
-
-abbrev pub most_database_bytes : ℕ
-most_database_bytes = mebibytes 16
 
 -- the grid of a device in a family's folder
 abbrev pub grid_name : List ℕ → List ℕ → List ℕ

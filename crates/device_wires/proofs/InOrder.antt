@@ -14,9 +14,10 @@ use Rattle.fabric_laws.proofs.Orders.{wire_total, wire_same, same_wire_is}
 use Rattle.fabric_laws.proofs.Members.{any_from}
 use Rattle.fabric_laws.proofs.Sorted.{inserted_from, inserted_old, inserted_new, inserted_rising}
 use Rattle.fabric.specs.GraphOf.{number_of}
-use Rattle.wire_names.specs.Kept.{HasShortBase, most_wires}
+use Rattle.wire_names.specs.Kept.{HasShortBase}
 use Rattle.wire_names.proofs.Numbers.{no_number}
 use Rattle.std.proofs.lemmas.List.{length-append}
+use Rattle.records.specs.Limits.{most_wires}
 use Rattle.device_wires.specs.Gathered.{gathered, AreGathered}
 
 -- in two parts

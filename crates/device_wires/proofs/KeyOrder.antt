@@ -8,11 +8,12 @@ use Rattle.std.specs.Ordering.{match_ordering, is_eq}
 use Rattle.std.specs.List.{list_any}
 use Rattle.std.specs.BTreeMap.{is_at}
 use Rattle.std.specs.BTreeSet.{insert_key}
+use Rattle.records.specs.Limits.{most_wires}
 use Rattle.fabric.specs.Wires.{Wire, wire_cmp, same_wire}
 use Rattle.fabric.specs.WireNames.{WireName, Named, Ignored}
 use Rattle.fabric.specs.TileWires.{named_wire}
 use Rattle.fabric_laws.specs.Insertion.{inserted}
-use Rattle.wire_names.specs.Kept.{HasShortBase, IsShortOrIgnored, most_wires}
+use Rattle.wire_names.specs.Kept.{HasShortBase, IsShortOrIgnored}
 use Rattle.device_wires.specs.Gathered.{gathered, AreGathered}
 use Rattle.device_wires.specs.declared.keys.WireKey.{WireKey}
 use Rattle.device_wires.specs.declared.keys.WireKey.TheVariants.{Local, Wide}

@@ -16,8 +16,8 @@ use Rattle.fabric.specs.Wires.{Wire}
 use Rattle.fabric.specs.WireNames.{WireName, Named, Ignored}
 use Rattle.fabric.specs.GraphOf.{number_of, number_in}
 use Rattle.wire_names.specs.Kept.{number_of_name}
-use Rattle.fabric.specs.WireOfName.{wire_of_name, wire_at, relative_of, without_chip}
-use Rattle.fabric.specs.Device.{TypeDb, Device, database_of, fixed_at, output_names, input_names}
+use Rattle.fabric.specs.WireOfName.{wire_of_name, wire_of_relative, relative_of, without_chip}
+use Rattle.fabric.specs.Device.{TypeDb, Device, database_at, fixed_at, output_names, input_names}
 use Rattle.fabric.specs.TileWires.{named_wire, wire_in, mux_wires, fixed_wires, tile_wires}
 use Rattle.device_wires.specs.TileNames.{is_ignored, mux_names, fixed_names, database_names, joined, routing_names, tile_names, KnowsTypes}
 use Rattle.device_wires.specs.Types.{type_named}
@@ -33,11 +33,11 @@ none_here rules (n ∷ ns) = none_here rules ns
 
 -- the wire that a name has where it isn't ignored
 abbrev its_wire : Rules → ℕ × ℕ → List ℕ → Option Wire
-its_wire rules place name = named_wire (wire_at place rules (relative_of (without_chip rules.chip_prefix name)))
+its_wire rules place name = named_wire (wire_of_relative place rules (relative_of (without_chip rules.chip_prefix name)))
 
 not_ignored : (rules : Rules) (place : ℕ × ℕ) (name : List ℕ) (b : Bool) → is_ignored rules name ≡ b → wire_here rules (Some place) name ≡ (if b then None else its_wire rules place name)
-not_ignored rules place name true e = ap (λ t. named_wire (if t then Ignored else wire_at place rules (relative_of (without_chip rules.chip_prefix name)))) e
-not_ignored rules place name false e = ap (λ t. named_wire (if t then Ignored else wire_at place rules (relative_of (without_chip rules.chip_prefix name)))) e
+not_ignored rules place name true e = ap (λ t. named_wire (if t then Ignored else wire_of_relative place rules (relative_of (without_chip rules.chip_prefix name)))) e
+not_ignored rules place name false e = ap (λ t. named_wire (if t then Ignored else wire_of_relative place rules (relative_of (without_chip rules.chip_prefix name)))) e
 
 -- the wires of a mux, at a place that may be wanting
 mux_here : (rules : Rules) (here : Option (ℕ × ℕ)) (mux : Mux)
@@ -75,7 +75,7 @@ pub tile_wires_named : (device : Device) (tile : Tile) → tile_wires device til
 tile_wires_named device tile =
     let rules = device.profile.rules in
     let wire = wire_in rules tile in
-    let muxes = (database_of device.types tile).muxes in
+    let muxes = (database_at device.types tile).muxes in
     let fixed = fixed_at device tile in
     let muxes_same : flat_map (mux_wires rules tile) muxes ≡ filter_map wire (flat_map (mux_names rules) muxes) =
     flat_same (mux_wires rules tile) (λ mux. filter_map wire (mux_names rules mux)) (mux_here rules tile.place) muxes ∙ sym (filter_map-flat_map wire (mux_names rules) muxes) in
@@ -112,7 +112,7 @@ pub routing_same : (device : Device) (tile : Tile)
 routing_same device tile =
     let rules = device.profile.rules in
     let joins = filter (λ (j : Join). bytes_eq j.tile tile.kind) device.profile.joins in
-    let db = database_of device.types tile in
+    let db = database_at device.types tile in
     let muxes = flat_map (mux_names rules) db.muxes in
     ap (λ names. names ++ flat_map (λ j. fixed_names rules (joined j)) joins) (in_database rules (type_named device.types tile.kind))
     ∙ append_assoc muxes (flat_map (fixed_names rules) db.fixed) (flat_map (λ j. fixed_names rules (joined j)) joins)

@@ -4,8 +4,8 @@ use Rattle.std.specs.Prelude.{flat_map, option_to_list, Err, IsErrOf}
 use Rattle.std.proofs.lemmas.List.{map_more, map-append, take_more, take-append-drop, append-nil}
 use Rattle.std.proofs.lemmas.List.Concat.{flat_map-append}
 use Rattle.std.proofs.lemmas.List.Elements.{filter_map-append}
+use Rattle.records.specs.Limits.{most_wires}
 use Rattle.fabric.specs.Wires.{Wire}
-use Rattle.wire_names.specs.Kept.{most_wires}
 use Rattle.device_wires.specs.Gathered.{gathered}
 use Rattle.device_wires.proofs.InOrder.{gathered-append, still_many}
 use Rattle.device_wires.proofs.Lists.{one_mapped}

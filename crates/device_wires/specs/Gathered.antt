@@ -1,10 +1,11 @@
 -- Wires that are put in order one after the other, each once. (Our own.)
 use Rattle.std.specs.Prelude.{◌≡◌, ◌≤◌, ℕ, List, [], ◌∷◌, length}
 use Rattle.words.specs.Members.{In}
+use Rattle.records.specs.Limits.{most_wires}
 use Rattle.fabric.specs.InOrder.{IsRising}
 use Rattle.fabric.specs.Wires.{Wire, wire_cmp}
 use Rattle.fabric_laws.specs.Insertion.{inserted}
-use Rattle.wire_names.specs.Kept.{HasShortBase, most_wires}
+use Rattle.wire_names.specs.Kept.{HasShortBase}
 
 -- wires in order, with more of them put in
 abbrev pub gathered : List Wire → List Wire → List Wire

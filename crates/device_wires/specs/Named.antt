@@ -1,10 +1,10 @@
 -- What a device names. (Our own.)
 use Rattle.std.specs.Prelude.{◌<◌, List, length, flat_map}
+use Rattle.records.specs.Limits.{most_wires}
 use Rattle.fabric.specs.InOrder.{InOrderOnce}
 use Rattle.fabric.specs.Wires.{Wire, wire_cmp}
 use Rattle.fabric.specs.Device.{Device}
 use Rattle.fabric.specs.TileWires.{tile_wires}
-use Rattle.wire_names.specs.Kept.{most_wires}
 
 -- the wires that the tiles of a device name, tile by tile
 abbrev pub named_wires : Device → List Wire

@@ -7,7 +7,7 @@ use Rattle.std.specs.BTreeMap.{BTreeMap, get}
 use Rattle.records.specs.Database.{Mux, Fixed, TileDb}
 use Rattle.records.specs.Grid.{Tile}
 use Rattle.records.specs.Profile.{Rules, Join, RegisterKind, SliceKind}
-use Rattle.fabric.specs.Device.{Device, database_of, fixed_at, output_names, input_names, choice_names}
+use Rattle.fabric.specs.Device.{Device, database_at, fixed_at, output_names, input_names, choice_names}
 use Rattle.fabric.specs.WireOfName.{begins_with_one}
 
 -- the name is one of a wire of another chip
@@ -34,7 +34,7 @@ names_if test names = if test then names else []
 -- those of the muxes, the fixed connections and the joins of a tile
 abbrev pub routing_names : Device → Tile → List (List ℕ)
 routing_names device tile =
-    flat_map (mux_names device.profile.rules) (database_of device.types tile).muxes
+    flat_map (mux_names device.profile.rules) (database_at device.types tile).muxes
     ++ flat_map (fixed_names device.profile.rules) (fixed_at device tile)
 
 -- those of a tile

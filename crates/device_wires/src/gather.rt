@@ -1,10 +1,10 @@
 //! The wires that the tiles of a device name.
 
 ghost use Rattle.std.specs.Prelude.{◌≡◌, ◌<◌, [], filter_map, flat_map, length, map, IfErr, IfOk, IsErrOf, OnOk};
+ghost use Rattle.records.specs.Limits.{most_wires};
 ghost use Rattle.fabric.specs.Device.{Device as Record};
 ghost use Rattle.fabric.specs.TileWires.{named_wire, tile_wires, wire_in};
 ghost use Rattle.fabric.specs.WireOfName.{wire_of_name};
-ghost use Rattle.wire_names.specs.Kept.{most_wires};
 ghost use Rattle.device_wires.specs.Gathered.{gathered};
 ghost use Rattle.device_wires.specs.Named.{named_wires};
 ghost use Rattle.device_wires.specs.TileNames.{KnowsTypes, tile_names as tile_names_of};

@@ -1,8 +1,9 @@
 //! Wires in order.
 
 ghost use Rattle.std.specs.Prelude.{◌≡◌, ◌<◌, [], length, map, option_to_list, IfErr, IfOk, IsErrOf, OnErr, OnOk};
+ghost use Rattle.records.specs.Limits.{most_wires};
 ghost use Rattle.fabric.specs.TileWires.{named_wire};
-ghost use Rattle.wire_names.specs.Kept.{IsShortOrIgnored, most_wires};
+ghost use Rattle.wire_names.specs.Kept.{IsShortOrIgnored};
 ghost use Rattle.wire_names.specs.LentNames.{wire_name};
 ghost use Rattle.device_wires.specs.Gathered.{AreGathered, gathered};
 ghost use Rattle.device_wires.specs.Keys.{wire_of};

@@ -1,11 +1,12 @@
 //! The wires of a device under numbers.
 
 ghost use Rattle.std.specs.Prelude.{◌≡◌, ◌≤◌, length, option_map, slice_get, IfOk, IsErrOf};
+ghost use Rattle.records.specs.Limits.{most_wires};
 ghost use Rattle.fabric.specs.GraphOf.{number_in as number_in_of};
 ghost use Rattle.fabric.specs.InOrder.{InOrderOnce, IsRising};
 ghost use Rattle.fabric.specs.WireNames.{Named};
 ghost use Rattle.fabric.specs.Wires.{wire_cmp};
-ghost use Rattle.wire_names.specs.Kept.{most_wires, number_of_name};
+ghost use Rattle.wire_names.specs.Kept.{number_of_name};
 ghost use Rattle.wire_names.specs.LentNames.{wire_name};
 ghost use Rattle.device_wires.specs.Named.{named_wires, NamesTooMany};
 

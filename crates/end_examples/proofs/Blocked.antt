@@ -6,7 +6,7 @@ use Rattle.repair.specs.Turns.{Turn}
 use Rattle.attempts.specs.Jobs.{read_of}
 use Rattle.attempts.specs.Turns.{Blocked}
 use Rattle.attempts.specs.Attempts.{Attempt, AttemptBlocked, EndPad, NoRoute, Ended, IsAnswer, ended, at_pad}
-use Rattle.plain_routes.proofs.Cuts.{blocked_law}
+use Rattle.route_laws.proofs.Cuts.{blocked_law}
 use Rattle.end_examples.specs.Joined.{device}
 use Rattle.end_examples.specs.Ends.{job_of, starts_with, net, pad_design, pad_rest, pad_cut, to_pad, full_design, full_rest, full_cut, slice_design, slice_rest, to_slice}
 use Rattle.end_examples.proofs.Conditions.{told_pad, pad_starts, pad_safe, told_full, told_slice}

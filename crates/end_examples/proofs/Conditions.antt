@@ -1,7 +1,8 @@
 -- What the laws of plain tests ask of the layouts, and where the attempts start.
 use Rattle.std.proofs.Common.{◌≡◌, true, refl}
 use Rattle.std.specs.List.{list_all}
-use Rattle.links.proofs.Below.{has, in_has}
+use Rattle.links.proofs.Below.{in_has}
+use Rattle.links.specs.Below.{has}
 use Rattle.fabric_laws.proofs.Graphs.{has_graph}
 use Rattle.fabric_laws.proofs.Members.{all_from}
 use Rattle.fabric_examples.proofs.Tests.{drives_once, clean_once}
@@ -14,9 +15,9 @@ use Rattle.upset_laws.specs.PlainUpset.{OutputsListed, is_safe}
 use Rattle.upset_laws.proofs.PlainDomains.{safe_law}
 use Rattle.repair.specs.Layouts.{configured}
 use Rattle.repair.specs.Turns.{routing}
-use Rattle.attempts.specs.Starts.{IsStart}
-use Rattle.plain_routes.proofs.Rules.{IsToldBy}
-use Rattle.plain_routes.proofs.Starts.{start_law}
+use Rattle.attempts.specs.Starts.{IsFirstState}
+use Rattle.route_laws.proofs.Rules.{IsToldBy}
+use Rattle.route_laws.proofs.Starts.{start_law}
 use Rattle.end_examples.specs.Joined.{device, layout_at}
 use Rattle.end_examples.specs.Ends.{job_of, starts_with, pad_design, pad_rest, to_pad, full_design, full_rest, slice_design, slice_rest, moved, to_slice}
 
@@ -36,7 +37,7 @@ safe_by k told h = (safe_law device k told.graph told.clean told.outputs).0 h
 pub told_pad : IsToldBy device (configured pad_rest)
 told_pad = told_by pad_rest.config pad_rest.side refl refl
 
-pub pad_starts : IsStart (job_of pad_design) (starts_with pad_rest to_pad)
+pub pad_starts : IsFirstState (job_of pad_design) (starts_with pad_rest to_pad)
 pad_starts = start_law (job_of pad_design) (told_by pad_design.config pad_design.side refl refl) (starts_with pad_rest to_pad) refl refl refl refl refl refl refl refl
 
 pub pad_safe : IsSafe (configured pad_rest)
@@ -46,7 +47,7 @@ pad_safe = safe_by (configured pad_rest) told_pad refl
 pub told_full : IsToldBy device (configured full_rest)
 told_full = told_by full_rest.config full_rest.side refl refl
 
-pub full_starts : IsStart (job_of full_design) (starts_with full_rest to_slice)
+pub full_starts : IsFirstState (job_of full_design) (starts_with full_rest to_slice)
 full_starts = start_law (job_of full_design) (told_by full_design.config full_design.side refl refl) (starts_with full_rest to_slice) refl refl refl refl refl refl refl refl
 
 pub full_safe : IsSafe (configured full_rest)
@@ -56,7 +57,7 @@ full_safe = safe_by (configured full_rest) told_full refl
 pub told_slice : IsToldBy device (configured slice_rest)
 told_slice = told_by slice_rest.config slice_rest.side refl refl
 
-pub slice_starts : IsStart (job_of slice_design) (starts_with slice_rest to_slice)
+pub slice_starts : IsFirstState (job_of slice_design) (starts_with slice_rest to_slice)
 slice_starts = start_law (job_of slice_design) (told_by slice_design.config slice_design.side refl refl) (starts_with slice_rest to_slice) refl refl refl refl refl refl refl refl
 
 pub slice_safe : IsSafe (configured slice_rest)

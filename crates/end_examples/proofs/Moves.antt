@@ -16,8 +16,8 @@ use Rattle.attempts.specs.Jobs.{Job, State, read_of}
 use Rattle.attempts.specs.Candidates.{BecomesRipped, IsMoved, IsCandidate, WasHeld, site_cmp, IsFirst, Step}
 use Rattle.attempts.specs.Turns.{Complete}
 use Rattle.attempts.specs.Attempts.{Attempt, after_step, AttemptBlocked, AttemptComplete, Moved, Routed, Ended, IsAnswer, ended, moves, completes}
-use Rattle.plain_routes.specs.PlainPaths.{first_paths, weight_by}
-use Rattle.plain_routes.proofs.Paths.{route_law}
+use Rattle.route_laws.specs.PlainPaths.{first_paths, weight_by}
+use Rattle.route_laws.proofs.Paths.{route_law}
 use Rattle.attempt_examples.proofs.Tests.{connections, connects_listed, modelled, clear, names_differ}
 use Rattle.end_examples.specs.Joined.{device, graph, placed, first_tile, second_tile, second_kind}
 use Rattle.end_examples.specs.Ends.{job_of, starts_with, net, pad_cut, slice_design, slice_rest, to_slice, old_site, new_site, moved, step, routed, way}

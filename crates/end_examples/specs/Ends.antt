@@ -9,7 +9,7 @@ use Rattle.circuit.specs.Parts.{Table, Pad, PartRef, OfInput, Source}
 use Rattle.circuit.specs.Circuits.{Connection}
 use Rattle.cells.specs.Sites.{Site}
 use Rattle.repair.specs.Layouts.{Layout}
-use Rattle.repair.specs.Nets.{RipAll}
+use Rattle.records.specs.Ripping.{RipAll}
 use Rattle.attempts.specs.Jobs.{Job, State}
 use Rattle.attempts.specs.Candidates.{Step}
 use Rattle.attempts.specs.Turns.{Cut}

@@ -19,8 +19,8 @@ pub record Device : Type 0 where
   pub profile : Profile
 
 -- the database of a tile; a type without one has no records
-abbrev pub database_of : List TypeDb → Tile → TileDb
-database_of types tile = option_map_or (λ t. t.db) (find (λ t. bytes_eq t.kind tile.kind) types) (record { muxes = []; words = []; enums = []; fixed = [] })
+abbrev pub database_at : List TypeDb → Tile → TileDb
+database_at types tile = option_map_or (λ t. t.db) (find (λ t. bytes_eq t.kind tile.kind) types) (record { muxes = []; words = []; enums = []; fixed = [] })
 
 -- the slice kinds and the pad kinds that have a site in a tile
 abbrev pub slices_at : Device → Tile → List SliceKind
@@ -31,7 +31,7 @@ pads_at device tile = filter (λ k. bytes_eq k.tile tile.kind) device.profile.pa
 
 -- a tile's fixed connections: those of its database and the joins of its type
 abbrev pub fixed_at : Device → Tile → List Fixed
-fixed_at device tile = (database_of device.types tile).fixed
+fixed_at device tile = (database_at device.types tile).fixed
     ++ map (λ j. record { sink = j.sink; source = j.source }) (filter (λ j. bytes_eq j.tile tile.kind) device.profile.joins)
 
 -- the names of cell outputs in a tile

@@ -12,7 +12,7 @@ use Rattle.links.specs.Links.{Link}
 use Rattle.fabric.specs.InOrder.{InOrderOnce}
 use Rattle.fabric.specs.Wires.{Wire, wire_cmp, same_wire}
 use Rattle.fabric.specs.Settings.{Settings}
-use Rattle.fabric.specs.Device.{Device, database_of, fixed_at, output_names}
+use Rattle.fabric.specs.Device.{Device, database_at, fixed_at, output_names}
 use Rattle.fabric.specs.TileWires.{wire_in, tile_wires}
 use Rattle.fabric.specs.Graph.{GraphMux, GraphArc, Graph}
 
@@ -28,7 +28,7 @@ number_in wires rules tile name = option_and_then (number_of wires) (wire_in rul
 abbrev pub tile_muxes : Device → List Wire → ℕ → Tile → List GraphMux
 tile_muxes device wires number tile =
     filter_map (λ mux. option_map (λ sink. record { tile = number; origin = origin_of tile; sink = sink; mux = mux }) (number_in wires device.profile.rules tile mux.sink))
-    (database_of device.types tile).muxes
+    (database_at device.types tile).muxes
 
 -- the muxes of all tiles, by tile, then in file order
 abbrev pub muxes_of : Device → List Wire → List GraphMux
@@ -60,7 +60,7 @@ abbrev pub outputs_of : Device → List Wire → List ℕ
 outputs_of device wires = flat_map (λ tile. filter_map (number_in wires device.profile.rules tile) (output_names device tile)) device.grid.tiles
 
 abbrev pub settings_in : Device → Tile → Settings
-settings_in device tile = let db = database_of device.types tile in record { words = db.words; enums = db.enums }
+settings_in device tile = let db = database_at device.types tile in record { words = db.words; enums = db.enums }
 
 -- Arc order: by sink, source, tile, then place in the database. Muxes are numbered by tile and place, so their
 -- numbers stand for both.

@@ -7,7 +7,7 @@ use Rattle.records.specs.Profile.{Rules}
 use Rattle.fabric.specs.Wires.{Wire}
 use Rattle.fabric.specs.WireNames.{WireName, Named, Ignored}
 use Rattle.fabric.specs.WireOfName.{wire_of_name}
-use Rattle.fabric.specs.Device.{Device, database_of, fixed_at, output_names, input_names}
+use Rattle.fabric.specs.Device.{Device, database_at, fixed_at, output_names, input_names}
 
 abbrev pub named_wire : WireName → Option Wire
 named_wire (Named wire) = Some wire
@@ -30,6 +30,6 @@ fixed_wires rules tile fixed =
 -- the wires that a tile names: by muxes, fixed connections, joins and the kinds of the profile
 abbrev pub tile_wires : Device → Tile → List Wire
 tile_wires device tile =
-    flat_map (mux_wires device.profile.rules tile) (database_of device.types tile).muxes
+    flat_map (mux_wires device.profile.rules tile) (database_at device.types tile).muxes
     ++ flat_map (fixed_wires device.profile.rules tile) (fixed_at device tile)
     ++ filter_map (wire_in device.profile.rules tile) (output_names device tile ++ input_names device tile)

@@ -5,6 +5,7 @@ use Rattle.std.specs.Prelude.{◌≡◌, ◌≢◌, ℕ, ℤ, pos, neg_ℤ, ◌+
 use Rattle.words.specs.Members.{In}
 use Rattle.texts.specs.Numbers.{number_up_to}
 use Rattle.records.specs.Profile.{Rules}
+use Rattle.records.specs.Limits.{most_distance}
 use Rattle.fabric.specs.Wires.{Wire, Local, Wide}
 
 -- what a name stands for: a wire, or nothing, where it names a wire of another chip
@@ -23,10 +24,6 @@ pub record BeginsWithOne (prefixes : List (List ℕ)) (name : List ℕ) : Type 0
 pub data WithoutChip (chip : Option (List ℕ)) (name : List ℕ) : List ℕ → Type 0 where
   stripped : {prefix rest : List ℕ} → chip ≡ Some prefix → name ≡ prefix ++ rest → rest ≢ [] → WithoutChip chip name rest
   kept : ((prefix rest : List ℕ) → chip ≡ Some prefix → name ≡ prefix ++ rest → rest ≡ []) → WithoutChip chip name name
-
--- the greatest distance
-abbrev pub most_distance : ℕ
-most_distance = 255
 
 -- A distance as it is written: one letter with a number lowers, another one raises, and nothing is no distance.
 pub data Distance (lowers raises text : List ℕ) : ℤ → Type 0 where

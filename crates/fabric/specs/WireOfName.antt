@@ -4,8 +4,9 @@ use Rattle.std.specs.Prelude.{ℕ, ℤ, pos, neg_ℤ, ◌+ℤ◌, Bool, List, le
 use Rattle.std.specs.List.{list_any, starts_with}
 use Rattle.texts.specs.Numbers.{is_digit, number_up_to}
 use Rattle.records.specs.Profile.{Rules}
+use Rattle.records.specs.Limits.{most_distance}
 use Rattle.fabric.specs.Wires.{Local, Wide}
-use Rattle.fabric.specs.WireNames.{WireName, Named, Ignored, most_distance}
+use Rattle.fabric.specs.WireNames.{WireName, Named, Ignored}
 
 abbrev pub begins_with_one : List (List ℕ) → List ℕ → Bool
 begins_with_one prefixes name = list_any (λ prefix. starts_with nat_eq name prefix) prefixes
@@ -51,9 +52,9 @@ relative_of name =
     let right = distance_of (codes "W") (codes "E") down.rest in
     behind_distances down.by right.by name right.rest
 
-abbrev pub wire_at : ℕ × ℕ → Rules → Relative → WireName
-wire_at place rules r = Named (if begins_with_one rules.wide r.base then Wide r.base else Local (pos place.0 +ℤ r.rows) (pos place.1 +ℤ r.columns) r.base)
+abbrev pub wire_of_relative : ℕ × ℕ → Rules → Relative → WireName
+wire_of_relative place rules r = Named (if begins_with_one rules.wide r.base then Wide r.base else Local (pos place.0 +ℤ r.rows) (pos place.1 +ℤ r.columns) r.base)
 
 -- the wire of a name at a place
 abbrev pub wire_of_name : ℕ × ℕ → List ℕ → Rules → WireName
-wire_of_name place name rules = if begins_with_one rules.other_chips name then Ignored else wire_at place rules (relative_of (without_chip rules.chip_prefix name))
+wire_of_name place name rules = if begins_with_one rules.other_chips name then Ignored else wire_of_relative place rules (relative_of (without_chip rules.chip_prefix name))

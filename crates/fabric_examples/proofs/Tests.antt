@@ -5,7 +5,8 @@ use Rattle.std.specs.List.{list_any, list_all}
 use Rattle.std.proofs.lemmas.Bool.{false≢true, and_parts, eqb-true}
 use Rattle.words.specs.Members.{In}
 use Rattle.links.specs.Links.{Link, Routing, Drives, Feeds, Counting, IsClean}
-use Rattle.links.proofs.Below.{below, below_sound, has, has_in, in_has}
+use Rattle.links.proofs.Below.{below_sound, has_in, in_has}
+use Rattle.links.specs.Below.{below, has}
 use Rattle.fabric.specs.Graph.{Graph}
 use Rattle.fabric_examples.specs.Feeds.{FeedText}
 use Rattle.mini.specs.Spoken.{wire_called}

@@ -16,7 +16,7 @@ ghost use Rattle.fabric_examples.specs.Feeds.{FeedText, pin_feeds};
 ghost use Rattle.fabric_examples.specs.Muxes.{at, chosen_sources, longer, must_be_zero, tied};
 ghost use Rattle.fabric_examples.specs.Options.{tied_enum};
 ghost use Rattle.fabric_examples.specs.ToggleLinks.{toggle_links};
-ghost use Rattle.fabric_laws.specs.Insertion.{in_order};
+ghost use Rattle.fabric_laws.specs.Insertion.{sorted_once};
 ghost use Rattle.fabric_laws.specs.PlainGraph.{graph_of};
 ghost use Rattle.links.specs.Links.{Counting, Feeds, IsClean};
 ghost use Rattle.mini.specs.MiniA.{mini_a, rules};
@@ -72,7 +72,7 @@ pub fn size_of_mini_a()
     ensures wires { length (graph_of mini_a).wires ≡ 82 }
     ensures arcs { length (graph_of mini_a).arcs ≡ 137 }
     ensures outputs { length (graph_of mini_a).outputs ≡ 15 }
-    ensures bits { length (in_order bit_cmp (mux_bits (graph_of mini_a))) ≡ 178 }
+    ensures bits { length (sorted_once bit_cmp (mux_bits (graph_of mini_a))) ≡ 178 }
 {}
 
 /// The links of the toggle.

@@ -5,7 +5,8 @@ use Rattle.std.specs.List.{starts_with}
 use Rattle.std.proofs.Math.Seq.{drop-append_seam}
 use Rattle.std.proofs.lemmas.Bool.{false≢true, and_parts, lt-ltb}
 use Rattle.texts.specs.Numbers.{is_digit, number_up_to}
-use Rattle.fabric.specs.WireNames.{most_distance, Distance, none, lower, raise, IsRelative}
+use Rattle.records.specs.Limits.{most_distance}
+use Rattle.fabric.specs.WireNames.{Distance, none, lower, raise, IsRelative}
 use Rattle.fabric.specs.WireOfName.{Moved, behind_number, distance_of, Relative, behind_distances, relative_of}
 use Rattle.fabric_laws.proofs.Members.{if_true, if_false}
 use Rattle.fabric_laws.proofs.Prefixes.{starts_from, starts_to}

@@ -6,7 +6,7 @@ use Rattle.std.specs.Ordering.{ordering_reverse, match_ordering}
 use Rattle.std.specs.Cmp.{IsTotalOrder}
 use Rattle.words.specs.Members.{In}
 use Rattle.fabric.specs.InOrder.{IsRising, InOrderOnce}
-use Rattle.fabric_laws.specs.Insertion.{inserted, in_order}
+use Rattle.fabric_laws.specs.Insertion.{inserted, sorted_once}
 
 turned_less : (o : Ordering) → ordering_reverse o ≡ Less → o ≡ Greater
 turned_less Less h = absurd (let no : ⊥ = cc in no)
@@ -86,18 +86,18 @@ module _ {X : Type 0} (cmp : X → X → Ordering) (total : IsTotalOrder cmp) wh
       )
 
   -- insertion of each element of a list gives its members in order, each once
-  pub sorted : (named : List X) → ((x y : X) → In named x → In named y → cmp x y ≡ Equal → y ≡ x) → InOrderOnce cmp named (in_order cmp named)
+  pub sorted : (named : List X) → ((x y : X) → In named x → In named y → cmp x y ≡ Equal → y ≡ x) → InOrderOnce cmp named (sorted_once cmp named)
   sorted [] same = record { rising = tt; members = λ x. ((λ i. i), (λ i. i)) }
   sorted (x ∷ xs) same = step (sorted xs (λ a b i j. same a b (inr i) (inr j)))
     where
-      step : InOrderOnce cmp xs (in_order cmp xs) → InOrderOnce cmp (x ∷ xs) (inserted cmp x (in_order cmp xs))
+      step : InOrderOnce cmp xs (sorted_once cmp xs) → InOrderOnce cmp (x ∷ xs) (inserted cmp x (sorted_once cmp xs))
       step rest = record {
-        rising = inserted_rising x (in_order cmp xs) rest.rising;
+        rising = inserted_rising x (sorted_once cmp xs) rest.rising;
         members = λ z. (
-          (λ i. elim (inserted_from x (in_order cmp xs) z i) [ inl e ↦ inl e | inr j ↦ inr ((rest.members z).0 j) ]),
+          (λ i. elim (inserted_from x (sorted_once cmp xs) z i) [ inl e ↦ inl e | inr j ↦ inr ((rest.members z).0 j) ]),
           (λ i. elim i [
-            | inl e ↦ subst (In (inserted cmp x (in_order cmp xs))) e (inserted_new x (in_order cmp xs) (λ y j. same x y (inl refl) (inr ((rest.members y).0 j))))
-            | inr j ↦ inserted_old x (in_order cmp xs) z ((rest.members z).1 j)
+            | inl e ↦ subst (In (inserted cmp x (sorted_once cmp xs))) e (inserted_new x (sorted_once cmp xs) (λ y j. same x y (inl refl) (inr ((rest.members y).0 j))))
+            | inr j ↦ inserted_old x (sorted_once cmp xs) z ((rest.members z).1 j)
           ]),
         );
       }

@@ -8,7 +8,7 @@ use Rattle.records.specs.Database.{Arc, Mux}
 use Rattle.records.specs.Grid.{Tile, origin_of}
 use Rattle.records.specs.Profile.{Rules}
 use Rattle.fabric.specs.Wires.{Wire, same_wire}
-use Rattle.fabric.specs.Device.{Device, database_of, fixed_at}
+use Rattle.fabric.specs.Device.{Device, database_at, fixed_at}
 use Rattle.fabric.specs.TileWires.{wire_in, mux_wires, fixed_wires, tile_wires}
 use Rattle.fabric.specs.Graph.{GraphMux, GraphArc, Graph}
 use Rattle.fabric.specs.GraphOf.{number_of, number_in, tile_muxes, muxes_of, arc_in, mux_arcs, IsGraph}
@@ -31,7 +31,7 @@ stands device g tile name n h = number_stands device g tile name n (wire_in devi
 
 -- a mux as it is made of a tile's mux
 mux_made : (device : Device) (g : Graph) (number : ℕ) (tile : Tile) (mux : Mux) (m : GraphMux) (sink : Option ℕ)
-    → slice_get device.grid.tiles number ≡ Some tile → In (database_of device.types tile).muxes mux → number_in g.wires device.profile.rules tile mux.sink ≡ sink
+    → slice_get device.grid.tiles number ≡ Some tile → In (database_at device.types tile).muxes mux → number_in g.wires device.profile.rules tile mux.sink ≡ sink
     → option_map (λ s. let made : GraphMux = record { tile = number; origin = origin_of tile; sink = s; mux = mux } in made) sink ≡ Some m → MuxStands device g m
 mux_made device g number tile mux m None at i e q = absurd (let no : ⊥ = cc in no)
 mux_made device g number tile mux m (Some s) at i e q =
@@ -43,7 +43,7 @@ mux_made device g number tile mux m (Some s) at i e q =
 mux_of : (device : Device) (g : Graph) (m : GraphMux) → In (muxes_of device g.wires) m → MuxStands device g m
 mux_of device g m h =
     let r = of_flat_map (λ t. tile_muxes device g.wires t.0 t.1) (enumerate_from 0 device.grid.tiles) m h in
-    let s = in_filter_map_from (λ mux. option_map (λ sink. let made : GraphMux = record { tile = r.0.0; origin = origin_of r.0.1; sink = sink; mux = mux } in made) (number_in g.wires device.profile.rules r.0.1 mux.sink)) (database_of device.types r.0.1).muxes m r.1.1 in
+    let s = in_filter_map_from (λ mux. option_map (λ sink. let made : GraphMux = record { tile = r.0.0; origin = origin_of r.0.1; sink = sink; mux = mux } in made) (number_in g.wires device.profile.rules r.0.1 mux.sink)) (database_at device.types r.0.1).muxes m r.1.1 in
     mux_made device g r.0.0 r.0.1 s.0 m (number_in g.wires device.profile.rules r.0.1 s.0.sink) (entry_is device.grid.tiles r.0.0 r.0.1 r.1.0) s.1 refl s.2
 
 pub mux_stands : (device : Device) (g : Graph) → IsGraph device g → (m : GraphMux) → In g.muxes m → MuxStands device g m
@@ -74,9 +74,9 @@ module _ (device : Device) (g : Graph) (is : IsGraph device g) (number : ℕ) (m
   -- a wire of the mux is one of the graph
   wire_there : (w : Wire) → In (mux_wires device.profile.rules n.tile mux) w → In g.wires w
   wire_there w i = (is.wires.members w).1 (in_flat_map (tile_wires device) device.grid.tiles n.tile w (get_in device.grid.tiles number n.tile n.in_tile)
-      (in_left (flat_map (mux_wires device.profile.rules n.tile) (database_of device.types n.tile).muxes ++ flat_map (fixed_wires device.profile.rules n.tile) (fixed_at device n.tile)) _ w
-      (in_left (flat_map (mux_wires device.profile.rules n.tile) (database_of device.types n.tile).muxes) _ w
-      (in_flat_map (mux_wires device.profile.rules n.tile) (database_of device.types n.tile).muxes mux w n.of_mux i))))
+      (in_left (flat_map (mux_wires device.profile.rules n.tile) (database_at device.types n.tile).muxes ++ flat_map (fixed_wires device.profile.rules n.tile) (fixed_at device n.tile)) _ w
+      (in_left (flat_map (mux_wires device.profile.rules n.tile) (database_at device.types n.tile).muxes) _ w
+      (in_flat_map (mux_wires device.profile.rules n.tile) (database_at device.types n.tile).muxes mux w n.of_mux i))))
 
   all_wires : mux_wires device.profile.rules n.tile mux ≡ n.sink ∷ filter_map (λ a. wire_in device.profile.rules n.tile a.source) mux.arcs
   all_wires = ap (λ o. option_map_or (λ sink. sink ∷ filter_map (λ a. wire_in device.profile.rules n.tile a.source) mux.arcs) o []) n.sink_named
@@ -112,7 +112,7 @@ module _ (device : Device) (g : Graph) (is : IsGraph device g) (number : ℕ) (m
   unfolding made_mux
   made_there = in_flat_map (λ t. tile_muxes device g.wires t.0 t.1) (enumerate_from 0 device.grid.tiles) (number, n.tile) made_mux (entry_to device.grid.tiles number n.tile n.in_tile)
       (in_filter_map_to (λ m. option_map (λ s. let made : GraphMux = record { tile = number; origin = origin_of n.tile; sink = s; mux = m } in made) (number_in g.wires device.profile.rules n.tile m.sink))
-      (database_of device.types n.tile).muxes mux made_mux n.of_mux
+      (database_at device.types n.tile).muxes mux made_mux n.of_mux
       (ap (λ o. option_map (λ s. let made : GraphMux = record { tile = number; origin = origin_of n.tile; sink = s; mux = mux } in made) o) sink_is))
 
   mux_number : ℕ

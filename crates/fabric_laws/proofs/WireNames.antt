@@ -7,7 +7,7 @@ use Rattle.std.proofs.lemmas.Bool.{false≢true, and_parts, and_from, lt-ltb, lt
 use Rattle.records.specs.Profile.{Rules}
 use Rattle.fabric.specs.Wires.{Local, Wide}
 use Rattle.fabric.specs.WireNames.{WireName, Named, Ignored, BeginsWithOne, WithoutChip, stripped, kept, IsRelative, IsAt, relative, own, IsWireName, ignored, wide, local}
-use Rattle.fabric.specs.WireOfName.{begins_with_one, without_chip, Relative, relative_of, wire_at, wire_of_name}
+use Rattle.fabric.specs.WireOfName.{begins_with_one, without_chip, Relative, relative_of, wire_of_relative, wire_of_name}
 use Rattle.fabric_laws.proofs.Members.{if_true, if_false, is_false}
 use Rattle.fabric_laws.proofs.Prefixes.{starts_from, starts_to, begins_from, begins_to}
 use Rattle.fabric_laws.proofs.Digits.{has_length}
@@ -78,11 +78,11 @@ wire_there : Rules → ℤ → ℤ → List ℕ → WireName
 wire_there rules row column base = Named (if begins_with_one rules.wide base then Wide base else Local row column base)
 
 at_to : (place : ℕ × ℕ) (name : List ℕ) (rules : Rules) (row column : ℤ) (base : List ℕ) → IsAt place name row column base
-    → wire_at place rules (relative_of name) ≡ wire_there rules row column base
+    → wire_of_relative place rules (relative_of name) ≡ wire_there rules row column base
 unfolding wire_there
-at_to place name rules row column base (relative {rows} {columns} r) = ap (wire_at place rules) (relative_to name base rows columns r)
+at_to place name rules row column base (relative {rows} {columns} r) = ap (wire_of_relative place rules) (relative_to name base rows columns r)
 at_to place name rules row column base (own n) =
-    ap (wire_at place rules) (own_to name (relative_of name) (is_read name) n)
+    ap (wire_of_relative place rules) (own_to name (relative_of name) (is_read name) n)
     ∙ ap (λ z. wire_there rules (pos z) (pos place.1 +ℤ pos 0) name) (add-zero place.0)
     ∙ ap (λ z. wire_there rules (pos place.0) (pos z) name) (add-zero place.1)
 
@@ -91,12 +91,12 @@ unfolding wire_there
 wire_to place name rules wire (ignored b) = if_true (begins_with_one rules.other_chips name) _ _ (begins_to rules.other_chips name b)
 wire_to place name rules wire (wide {rest} {base} {row} {column} mine chip at b) =
     if_false (begins_with_one rules.other_chips name) _ _ (is_false _ (λ t. mine (begins_from rules.other_chips name t)))
-    ∙ ap (λ t. wire_at place rules (relative_of t)) (chip_to rules.chip_prefix name rest chip)
+    ∙ ap (λ t. wire_of_relative place rules (relative_of t)) (chip_to rules.chip_prefix name rest chip)
     ∙ at_to place rest rules row column base at
     ∙ ap (λ w. Named w) (if_true (begins_with_one rules.wide base) (Wide base) (Local row column base) (begins_to rules.wide base b))
 wire_to place name rules wire (local {rest} {base} {row} {column} mine chip at n) =
     if_false (begins_with_one rules.other_chips name) _ _ (is_false _ (λ t. mine (begins_from rules.other_chips name t)))
-    ∙ ap (λ t. wire_at place rules (relative_of t)) (chip_to rules.chip_prefix name rest chip)
+    ∙ ap (λ t. wire_of_relative place rules (relative_of t)) (chip_to rules.chip_prefix name rest chip)
     ∙ at_to place rest rules row column base at
     ∙ ap (λ w. Named w) (if_false (begins_with_one rules.wide base) (Wide base) (Local row column base) (is_false _ (λ t. n (begins_from rules.wide base t))))
 
@@ -111,7 +111,7 @@ there_is place name rest rules row column base mine chip at = go (begins_with_on
     go false e = local mine chip at (λ w. false≢true (sym e ∙ begins_to rules.wide base w))
 
 read_is : (place : ℕ × ℕ) (name rest : List ℕ) (rules : Rules) (r : Relative) → (BeginsWithOne rules.other_chips name → ⊥)
-    → WithoutChip rules.chip_prefix name rest → IsRead rest r → IsWireName place name rules (wire_at place rules r)
+    → WithoutChip rules.chip_prefix name rest → IsRead rest r → IsWireName place name rules (wire_of_relative place rules r)
 unfolding wire_there
 read_is place name rest rules r mine chip (read_relative rows columns base is) =
     there_is place name rest rules (pos place.0 +ℤ rows) (pos place.1 +ℤ columns) base mine chip (relative is)
@@ -125,7 +125,7 @@ pub wire_is : (place : ℕ × ℕ) (name : List ℕ) (rules : Rules) → IsWireN
 wire_is place name rules = go (begins_with_one rules.other_chips name) refl
   where
     go : (b : Bool) → begins_with_one rules.other_chips name ≡ b
-        → IsWireName place name rules (if b then Ignored else wire_at place rules (relative_of (without_chip rules.chip_prefix name)))
+        → IsWireName place name rules (if b then Ignored else wire_of_relative place rules (relative_of (without_chip rules.chip_prefix name)))
     go true e = ignored (begins_from rules.other_chips name e)
     go false e =
         read_is place name (without_chip rules.chip_prefix name) rules (relative_of (without_chip rules.chip_prefix name))

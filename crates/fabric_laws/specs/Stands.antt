@@ -4,7 +4,7 @@ use Rattle.words.specs.Members.{In}
 use Rattle.records.specs.Database.{Arc, Mux}
 use Rattle.records.specs.Grid.{Tile, origin_of}
 use Rattle.fabric.specs.Wires.{Wire}
-use Rattle.fabric.specs.Device.{Device, database_of}
+use Rattle.fabric.specs.Device.{Device, database_at}
 use Rattle.fabric.specs.TileWires.{wire_in}
 use Rattle.fabric.specs.Graph.{GraphMux, GraphArc, Graph}
 
@@ -31,7 +31,7 @@ pub record ArcStands (device : Device) (g : Graph) (a : GraphArc) : Type 0 where
 pub record MuxStands (device : Device) (g : Graph) (m : GraphMux) : Type 0 where
   pub tile : Tile
   pub in_tile : slice_get device.grid.tiles m.tile ≡ Some tile
-  pub listed : In (database_of device.types tile).muxes m.mux
+  pub listed : In (database_at device.types tile).muxes m.mux
   pub origin : m.origin ≡ origin_of tile
   pub sink : StandsFor device g tile m.mux.sink m.sink
 
@@ -39,7 +39,7 @@ pub record MuxStands (device : Device) (g : Graph) (m : GraphMux) : Type 0 where
 pub record NamesArc (device : Device) (number : ℕ) (mux : Mux) (place : ℕ) (arc : Arc) : Type 0 where
   pub tile : Tile
   pub in_tile : slice_get device.grid.tiles number ≡ Some tile
-  pub of_mux : In (database_of device.types tile).muxes mux
+  pub of_mux : In (database_at device.types tile).muxes mux
   pub listed : slice_get mux.arcs place ≡ Some arc
   pub sink : Wire
   pub sink_named : wire_in device.profile.rules tile mux.sink ≡ Some sink

@@ -5,7 +5,7 @@ use Rattle.words.specs.Members.{In}
 use Rattle.fabric.specs.Device.{TypeDb}
 use Rattle.grammars.specs.BitsDb.{database_of}
 use Rattle.mini.specs.MiniA.{mini_a, mlc, mio, mck}
-use Rattle.named_laws.specs.DatabaseRead.{IsReadDatabase, IsReadDevice}
+use Rattle.formed_laws.specs.DatabaseRead.{IsReadDatabase, IsReadDevice}
 use Rattle.formed_examples.specs.Databases.{slice_db_text, pad_db_text, clock_db_text}
 use Rattle.formed_examples.proofs.Texts.{grid_read, profile_read}
 

@@ -1,11 +1,13 @@
 -- The toggle on MINI-A is a design that is read.
 use Rattle.std.proofs.Common.{◌≡◌, ℕ, Bool, true, false, not, ◌&&◌, List, [], ◌∷◌, refl}
 use Rattle.std.proofs.lemmas.Bool.{false≢true, and_parts}
-use Rattle.links.proofs.Below.{has, has_in}
+use Rattle.words.specs.Twice.{HasNoneTwice}
+use Rattle.links.proofs.Below.{has_in}
 use Rattle.fabric.specs.GraphOf.{outputs_of}
 use Rattle.circuit.specs.Faults.{Fault}
 use Rattle.circuit.specs.Right.{RightOutside, TwoAreRight}
 use Rattle.records.specs.Side.{Domain}
+use Rattle.links.specs.Below.{has}
 use Rattle.fabric_laws.specs.PlainGraph.{graph_of}
 use Rattle.fabric_laws.proofs.Graphs.{has_graph}
 use Rattle.mini.specs.MiniA.{mini_a}
@@ -13,7 +15,6 @@ use Rattle.upset.specs.Configured.{circuit_of}
 use Rattle.upset.specs.Safe.{IsMuxFault}
 use Rattle.upset_examples.proofs.Conditions.{of_toggle, toggle_clean, toggle_safe}
 use Rattle.upset_examples.proofs.ToggleMeets.{toggle_triplicated}
-use Rattle.formed_laws.specs.Twice.{HasNoneTwice}
 use Rattle.formed_laws.specs.Designs.{NoOverlap, IsReadDesign}
 use Rattle.formed_laws.proofs.Formed.{read_mux_bits_masked}
 use Rattle.formed_examples.proofs.Texts.{profile_read, side_read}

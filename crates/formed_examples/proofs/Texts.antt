@@ -10,7 +10,8 @@ use Rattle.json_forms.specs.MiniGrid.{mini_grid_text}
 use Rattle.json_forms.specs.Places.{place_of}
 use Rattle.json_forms.specs.Tiles.{tile_in, tile_of}
 use Rattle.json_forms.specs.Grid.{grid_of_members}
-use Rattle.json_forms.specs.Profile.{elements_read, profile_of_value, profile_of}
+use Rattle.json_forms.specs.Profile.{profile_of_value, profile_of}
+use Rattle.json_forms.specs.Lists.{elements_read}
 use Rattle.side_form.specs.Placings.{placed_in, names_in, voter_in}
 use Rattle.side_form.specs.Side.{side_in, side_of}
 use Rattle.mini.specs.MiniA.{mini_a}

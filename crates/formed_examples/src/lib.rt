@@ -19,7 +19,6 @@ ghost use Rattle.json_forms.specs.Profile.{profile_of};
 ghost use Rattle.links.specs.Links.{IsClean};
 ghost use Rattle.mini.specs.MiniA.{mck, mini_a, mio, mlc};
 ghost use Rattle.mini.specs.Toggle.{toggle, toggle_side};
-ghost use Rattle.named_laws.specs.DatabaseRead.{IsReadDevice};
 ghost use Rattle.records.specs.Profile.{SliceKind};
 ghost use Rattle.records.specs.Side.{Domain};
 ghost use Rattle.repair.specs.Turns.{routing};
@@ -27,6 +26,7 @@ ghost use Rattle.side_form.specs.Side.{side_of};
 ghost use Rattle.std.specs.Prelude.{Ok, Some, ◌≡◌};
 ghost use Rattle.upset.specs.Configured.{circuit_of};
 ghost use Rattle.upset.specs.Safe.{IsMuxFault, IsSafe};
+ghost use Rattle.formed_laws.specs.DatabaseRead.{IsReadDevice};
 ghost use Rattle.upset_examples.specs.Circuits.{with_toggle};
 
 /// The texts of the profile and of the side file are read as MINI-A's profile and as the toggle's side file, and MINI-A's

@@ -12,7 +12,7 @@ use Rattle.json_forms.specs.Faults.{FormFault, BadShape}
 use Rattle.json_forms.specs.Each.{each}
 use Rattle.json_forms.specs.Values.{list_in, member_in}
 use Rattle.json_forms.specs.Parts.{list_of}
-use Rattle.json_forms.specs.Profile.{Verdict, Fits, Misfits, Exceeds, verdict_fault, element_key, element_verdict, element_fault, elements_read, list_read}
+use Rattle.json_forms.specs.Lists.{Verdict, Fits, Misfits, Exceeds, verdict_fault, element_key, element_verdict, element_fault, elements_read, list_read}
 use Rattle.fabric_laws.proofs.Members.{in_filter_map_from}
 use Rattle.cells_laws.proofs.Options.{or_none, none_or, mapped_from, then_from}
 use Rattle.formed_laws.proofs.Results.{both, no_fault}

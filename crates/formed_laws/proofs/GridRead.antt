@@ -5,18 +5,17 @@ use Rattle.std.specs.List.{cons_option}
 use Rattle.std.specs.Result.{result_ok, result_err}
 use Rattle.serde_json.specs.Data.{Data}
 use Rattle.words.specs.Members.{In}
-use Rattle.words.specs.Firsts.{first_fault}
+use Rattle.words.specs.Firsts.{first_fault, unless_fault}
 use Rattle.records.specs.Grid.{Tile, Grid}
 use Rattle.records.specs.Limits.{Place}
 use Rattle.texts.specs.Names.{is_name}
-use Rattle.json_forms.specs.Faults.{FormFault, NotJson, BadShape, TooLarge}
+use Rattle.json_forms.specs.Faults.{FormFault, NotJson, BadShape, TooLarge, top_key}
 use Rattle.json_forms.specs.Options.{◌>>=◌}
-use Rattle.json_forms.specs.Results as results
 use Rattle.json_forms.specs.Each.{each_or_fault}
 use Rattle.json_forms.specs.Values.{Member, member_in, if_name, name_in, reading_of, object_in}
 use Rattle.json_forms.specs.Places.{place_of}
 use Rattle.json_forms.specs.Tiles.{tile_number_in, tile_in, place_fits, tile_of}
-use Rattle.json_forms.specs.Grid.{count_fault, grid_with, grid_of_members, top_key}
+use Rattle.json_forms.specs.Grid.{count_fault, grid_with, grid_of_members}
 use Rattle.fabric.specs.Wires.{name_cmp}
 use Rattle.fabric.specs.InOrder.{IsRising}
 use Rattle.fabric.specs.Graph.{Graph}
@@ -86,7 +85,7 @@ tiles_named (m ∷ ms) h = go (tile_of m) refl (h m (inl refl)) (tiles_named ms 
 members_named : (ms : List Member) (grid : Grid) → grid_of_members ms ≡ Ok grid → map (λ t. t.name) grid.tiles ≡ map (λ m. m.name) ms
 unfolding grid_of_members
 members_named ms grid h =
-    let a = both (each_or_fault tile_of ms) (λ tiles. results.unless_fault (count_fault tiles) (grid_with tiles)) grid h in
+    let a = both (each_or_fault tile_of ms) (λ tiles. unless_fault (count_fault tiles) (grid_with tiles)) grid h in
     let b = no_fault (first_fault (λ before m. result_err (tile_of m)) ms) (filter_map (λ m. result_ok (tile_of m)) ms) a.0 a.1.0 in
     let c = no_fault (count_fault a.0) (grid_with a.0) grid a.1.1 in
     subst (λ (g : Grid). map (λ t. t.name) g.tiles ≡ map (λ m. m.name) ms) c.1

@@ -2,9 +2,9 @@
 use Rattle.std.proofs.Common.{◌≡◌, inl, inr, List, [], ◌∷◌, ◌++◌, map, Option, None, refl, sym, subst, append_assoc, append-nil}
 use Rattle.words.specs.Members.{In}
 use Rattle.words.specs.Firsts.{first_fault_after, first_fault}
+use Rattle.words.specs.Twice.{HasNoneTwice}
 use Rattle.links.proofs.Members.{in_left, in_right, in_either, of_map}
 use Rattle.cells_laws.proofs.Options.{or_none}
-use Rattle.formed_laws.specs.Twice.{HasNoneTwice}
 
 module _ {X Y E : Type 0} (fault : List X → X → Option E) (key : X → Y)
     (sees : (before : List X) (y x : X) → fault before x ≡ None → In before y → key y ≡ key x → ⊥) where

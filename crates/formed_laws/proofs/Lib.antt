@@ -16,3 +16,6 @@ pub mod Settings
 pub mod Takes
 pub mod SiteOutputs
 pub mod Outputs
+pub mod Lists
+pub mod Rows
+pub mod Names

@@ -14,11 +14,11 @@ use Rattle.serde_json.specs.Data.{Data, null, boolean, number, string, array, ob
 use Rattle.serde_json.specs.Read.{number_of, of_json, of_items, of_members, max_depth, read}
 use Rattle.serde_json.specs.Find.{as_object}
 use Rattle.words.specs.Members.{In}
+use Rattle.words.specs.Twice.{HasNoneTwice}
 use Rattle.fabric.specs.Wires.{name_cmp}
 use Rattle.fabric.specs.InOrder.{IsRising}
 use Rattle.json_forms.specs.Values.{Member, members, object_in, reading_of}
 use Rattle.cells_laws.proofs.Options.{mapped_from, then_from}
-use Rattle.formed_laws.specs.Twice.{HasNoneTwice}
 
 -- the names of members
 abbrev pub names : Members → List (List ℕ)

@@ -7,6 +7,7 @@ use Rattle.std.proofs.lemmas.List.{map-append}
 use Rattle.std.proofs.lemmas.Option.{same_Some}
 use Rattle.std.proofs.lemmas.Slice.Eq.{bytes_eq-Decides}
 use Rattle.words.specs.Members.{In}
+use Rattle.words.specs.Twice.{HasNoneTwice}
 use Rattle.records.specs.Grid.{Tile}
 use Rattle.records.specs.Profile.{TakeIn, TableKind, RegisterKind, SliceKind, PadKind}
 use Rattle.fabric.specs.Device.{Device, slices_at, pads_at, choice_names}
@@ -16,7 +17,7 @@ use Rattle.circuit.specs.Parts.{Source, numbered, table_source, register_source,
 use Rattle.circuit.specs.WellFormed.{OutputsApart}
 use Rattle.cells.specs.Sites.{Site}
 use Rattle.cells.specs.Standing.{SliceStandsAt, PadStandsAt, slice_wires}
-use Rattle.cells.specs.Takes.{wire_at, suits}
+use Rattle.cells.specs.Takes.{wire_number, suits}
 use Rattle.cells.specs.Resolved.{table_cell, register_cell, role_of, pad_wire}
 use Rattle.cells.specs.CellsOf.{IsSliceOf, IsPadOf, cells_of}
 use Rattle.upset.specs.Configured.{Configured, circuit_of}
@@ -24,7 +25,6 @@ use Rattle.links.proofs.Members.{in_left, in_right, in_either, in_map, of_map, i
 use Rattle.fabric_laws.proofs.Members.{in_filter_to, in_filter_map_to}
 use Rattle.fabric_laws.proofs.Numbered.{get_in}
 use Rattle.cells_laws.proofs.Sites.{site_stands}
-use Rattle.formed_laws.specs.Twice.{HasNoneTwice}
 use Rattle.formed_laws.specs.SideRead.{IsApart}
 use Rattle.formed_laws.specs.ProfileRead.{IsFit}
 use Rattle.formed_laws.specs.Designs.{NoOverlap}
@@ -65,7 +65,7 @@ module _ (device : Device) (k : Configured) (apart : IsApart k.side) (fit : IsFi
   OfPad c = IsPadOf k.graph device.profile k.side c
 
   abbrev wire : Tile → List ℕ → ℕ
-  wire tile name = wire_at k.graph device.profile.rules tile name
+  wire tile name = wire_number k.graph device.profile.rules tile name
 
   in_device : (n : ℕ) (tile : Tile) → slice_get k.graph.grid.tiles n ≡ Some tile → slice_get device.grid.tiles n ≡ Some tile
   in_device n tile e = subst (λ grid. slice_get grid.tiles n ≡ Some tile) is.grid e

@@ -14,7 +14,7 @@ use Rattle.circuit.specs.WellFormed.{NamesApart, IsSlice, IsPad, TriplesFit}
 use Rattle.circuit.specs.Triplicated.{EntriesInDomain}
 use Rattle.cells.specs.Sites.{slice_site, pad_site}
 use Rattle.cells.specs.Resolved.{slice_cell, role_of, pad_cell}
-use Rattle.cells.specs.Accepted.{IsAccepted}
+use Rattle.cells.specs.Accepted.{CellsAreAccepted}
 use Rattle.cells.specs.CellsOf.{IsSliceOf, IsPadOf, cells_of}
 use Rattle.upset.specs.Configured.{Configured, circuit_of}
 use Rattle.links.proofs.Members.{in_left, in_right, in_either, in_map, of_map}
@@ -110,7 +110,7 @@ module _ (side : Side) (apart : IsApart side) where
 -- ---- the cells
 
 module _ (device : Device) (k : Configured) (apart : IsApart k.side) (made : cells_of k.graph device.profile k.image k.side ≡ Ok k.cells) where
-  pub accepted : IsAccepted k.graph device.profile k.image k.side
+  pub accepted : CellsAreAccepted k.graph device.profile k.image k.side
   accepted = cells_accepted k.graph device.profile k.image k.side k.cells made
 
   pub of_slice : (c : SliceCell) → In k.cells.slices c → IsSliceOf k.graph device.profile k.image k.side c

@@ -12,20 +12,20 @@ use Rattle.std.proofs.lemmas.Slice.Eq.{slice_eq-Decides, bytes_eq-Decides}
 use Rattle.serde_json.specs.Data.{Data}
 use Rattle.words.specs.Members.{In}
 use Rattle.words.specs.Firsts.{first_fault}
+use Rattle.words.specs.Twice.{HasNoneTwice}
 use Rattle.records.specs.Profile.{TakeIn, TakeOut, Case, Join, SliceKind, PadKind, Profile}
 use Rattle.cells.specs.Standing.{KindsApart}
-use Rattle.json_forms.specs.Faults.{FormFault, NotJson, BadShape}
+use Rattle.json_forms.specs.Faults.{FormFault, NotJson, BadShape, top_key}
 use Rattle.json_forms.specs.Results.{◌>>=◌}
 use Rattle.json_forms.specs.Values.{reading_of, object_in, member_in, name_in}
 use Rattle.json_forms.specs.Parts.{name_or_empty_in}
 use Rattle.json_forms.specs.Kinds.{join_in, slice_in, pad_in}
 use Rattle.json_forms.specs.KindRules.{KindName, same_kind, slice_name, pad_name, same_counts, has_counts_of_shape, slice_settings_pass, slice_wires_pass, is_own_wire, slice_keeps_rules, takes_in, takes_out, choice_setting_passes, pad_wires_pass, has_wires_of_modes, pad_keeps_rules, parts_fit}
-use Rattle.json_forms.specs.Grid.{top_key}
-use Rattle.json_forms.specs.Profile.{Fits, Misfits, Exceeds, verdict_fault, any_form, list_read, slice_verdict, pad_verdict, profile_of_value}
+use Rattle.json_forms.specs.Profile.{slice_verdict, pad_verdict, profile_of_value}
 use Rattle.records.specs.Limits.{Parts}
 use Rattle.links.proofs.Members.{in_left, in_right, in_map, of_map}
+use Rattle.json_forms.specs.Lists.{Fits, Misfits, Exceeds, verdict_fault, any_form, list_read}
 use Rattle.fabric_laws.proofs.Members.{any_to, find_from, imp_from}
-use Rattle.formed_laws.specs.Twice.{HasNoneTwice}
 use Rattle.formed_laws.specs.Readers.{IsReadProfile}
 use Rattle.formed_laws.specs.ProfileRead.{HaveEqualCounts, IsFit}
 use Rattle.formed_laws.proofs.Results.{both, same_value}

@@ -2,7 +2,8 @@
 use Rattle.std.proofs.Common.{◌≡◌, Option, Some, None, refl}
 use Rattle.std.specs.Prelude.{Result, Ok, Err}
 use Rattle.std.specs.Option.{ok_or}
-use Rattle.json_forms.specs.Results.{◌>>=◌, unless_fault}
+use Rattle.words.specs.Firsts.{unless_fault}
+use Rattle.json_forms.specs.Results.{◌>>=◌}
 
 -- both steps answered
 pub both : {A B F : Type 0} (r : Result A F) (f : A → Result B F) (b : B) → (r >>= f) ≡ Ok b → (a : A) × ((r ≡ Ok a) × (f a ≡ Ok b))

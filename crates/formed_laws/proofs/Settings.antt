@@ -11,7 +11,7 @@ use Rattle.fabric.specs.Settings.{Settings, word_named, enum_named}
 use Rattle.fabric.specs.Graph.{Graph}
 use Rattle.fabric.specs.MuxBits.{bits_named}
 use Rattle.cells.specs.Sites.{Site, settings_at}
-use Rattle.cells.specs.Resolved.{setting_bits as bits_of_setting, site_bits}
+use Rattle.cells.specs.Resolved.{bits_of_setting, site_bits}
 use Rattle.repair.specs.Plain.{setting_patterns, setting_bits_in, setting_bits}
 use Rattle.links.proofs.Members.{in_left, in_right, in_either, in_map, in_flat_map, of_flat_map}
 use Rattle.fabric_laws.proofs.Members.{find_from}

@@ -8,18 +8,17 @@ use Rattle.std.specs.Str.{bytes_eq}
 use Rattle.std.proofs.lemmas.Bool.{false≢true, and_parts, and_from}
 use Rattle.std.proofs.lemmas.Slice.Eq.{bytes_eq-Decides}
 use Rattle.words.specs.Members.{In}
-use Rattle.words.specs.Firsts.{or_else, first_fault}
+use Rattle.words.specs.Firsts.{or_else, first_fault, unless_fault}
+use Rattle.words.specs.Twice.{HasNoneTwice}
 use Rattle.records.specs.Side.{Domain, D0, D1, D2, Placed, Triple, Side}
-use Rattle.json_forms.specs.Faults.{NotJson, BadShape}
-use Rattle.json_forms.specs.Results.{◌>>=◌, unless_fault}
+use Rattle.json_forms.specs.Faults.{NotJson, BadShape, top_key}
+use Rattle.json_forms.specs.Results.{◌>>=◌}
 use Rattle.json_forms.specs.Values.{reading_of, object_in}
-use Rattle.json_forms.specs.Grid.{top_key}
 use Rattle.side_form.specs.Side.{OfForm, DuplicateName, Unpaired, WrongDomain, side_in, size_fault, same_site, cell_fault, names_of_triples, entry_fault, voter_fault, pad_triples, second_use, cell_names, first_outside, unknown_name, unpaired, same_domain, entries_of_triple, is_in_domain, first_elsewhere, wrong_domain, side_fault, in_form}
 use Rattle.circuit.specs.Triples.{names_of, all_triples}
 use Rattle.links.proofs.Members.{in_map, of_flat_map, in_flat_map}
 use Rattle.fabric_laws.proofs.Members.{any_from, any_to}
 use Rattle.cells_laws.proofs.Options.{or_none}
-use Rattle.formed_laws.specs.Twice.{HasNoneTwice}
 use Rattle.formed_laws.specs.Readers.{IsReadSide}
 use Rattle.formed_laws.specs.SideRead.{site_of, Lists, EntriesAre, IsPaired, IsApart}
 use Rattle.formed_laws.proofs.Found.{all_pass}

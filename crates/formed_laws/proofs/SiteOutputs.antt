@@ -9,11 +9,11 @@ use Rattle.records.specs.Profile.{SliceKind, PadKind}
 use Rattle.fabric.specs.Wires.{Wire, Local, Wide, same_wire}
 use Rattle.fabric.specs.WireNames.{BeginsWithOne, Named, Ignored}
 use Rattle.fabric.specs.WireOfName.{begins_with_one, without_chip, relative_of, wire_of_name}
-use Rattle.fabric.specs.Device.{Device, database_of, fixed_at, output_names, input_names, slices_at, pads_at}
+use Rattle.fabric.specs.Device.{Device, database_at, fixed_at, output_names, input_names, slices_at, pads_at}
 use Rattle.fabric.specs.TileWires.{named_wire, wire_in, mux_wires, fixed_wires, tile_wires}
 use Rattle.fabric.specs.Graph.{Graph}
 use Rattle.fabric.specs.GraphOf.{number_of, number_in, IsGraph}
-use Rattle.cells.specs.Takes.{wire_at}
+use Rattle.cells.specs.Takes.{wire_number}
 use Rattle.links.proofs.Members.{in_left, in_right, in_flat_map}
 use Rattle.fabric_laws.proofs.Members.{in_filter_map_to, if_false, is_false}
 use Rattle.fabric_laws.proofs.Numbered.{position_there}
@@ -68,7 +68,7 @@ module _ (device : Device) (g : Graph) where
 
   -- an output's name, which is none of another chip, has a number
   pub numbered : IsGraph device g → (tile : Tile) (name : List ℕ) (place : ℕ × ℕ) → In device.grid.tiles tile → tile.place ≡ Some place → In (output_names device tile) name
-      → (BeginsWithOne device.profile.rules.other_chips name → ⊥) → number tile name ≡ Some (wire_at g device.profile.rules tile name)
+      → (BeginsWithOne device.profile.rules.other_chips name → ⊥) → number tile name ≡ Some (wire_number g device.profile.rules tile name)
   numbered is tile name place i p j own =
       let rules = device.profile.rules in
       let outside : begins_with_one rules.other_chips name ≡ false = is_false (begins_with_one rules.other_chips name) (λ h. own (begins_from rules.other_chips name h)) in
@@ -76,7 +76,7 @@ module _ (device : Device) (g : Graph) where
       let named : wire_of_name place name rules ≡ Named w = if_false (begins_with_one rules.other_chips name) Ignored (Named w) outside in
       let here : wire_in rules tile name ≡ Some w = then_to (λ (q : ℕ × ℕ). named_wire (wire_of_name q name rules)) tile.place place w p (ap named_wire named) in
       let cells = filter_map (wire_in rules tile) (output_names device tile ++ input_names device tile) in
-      let others = flat_map (mux_wires rules tile) (database_of device.types tile).muxes ++ flat_map (fixed_wires rules tile) (fixed_at device tile) in
+      let others = flat_map (mux_wires rules tile) (database_at device.types tile).muxes ++ flat_map (fixed_wires rules tile) (fixed_at device tile) in
       let given = in_right others cells w (in_filter_map_to (wire_in rules tile) (output_names device tile ++ input_names device tile) name w (in_left (output_names device tile) (input_names device tile) name j) here) in
       let listed = (is.wires.members w).1 (in_flat_map (tile_wires device) device.grid.tiles tile w i given) in
       let n = position_there (same_wire w) g.wires w listed (same_wire_refl w) in

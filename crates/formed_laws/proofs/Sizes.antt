@@ -14,7 +14,7 @@ use Rattle.circuit.specs.Triples.{IsEntry, is_entry, all_triples, triple_with}
 use Rattle.circuit.specs.WellFormed.{SizesFit}
 use Rattle.cells.specs.Sites.{Site, slice_site}
 use Rattle.cells.specs.Standing.{SliceStandsAt}
-use Rattle.cells.specs.Takes.{wire_at}
+use Rattle.cells.specs.Takes.{wire_number}
 use Rattle.cells.specs.Resolved.{table_cell, register_cell}
 use Rattle.cells.specs.Accepted.{TripleAlike}
 use Rattle.cells.specs.Faults.{site_of_slice}
@@ -102,7 +102,7 @@ module _ (device : Device) (k : Configured) (apart : IsApart k.side) (fit : IsFi
   table_pins c t a i =
       let make = table_cell k.graph device.profile.rules k.image a.site in
       let r = of_map make a.site.kind.tables t (subst (λ ts. In ts t) (sym (tables_of c a)) i) in
-      (r.0, (r.1.0, ap (λ (u : TableCell). length u.pins) (sym r.1.1) ∙ length-map r.0.pins (wire_at k.graph device.profile.rules a.site.tile)))
+      (r.0, (r.1.0, ap (λ (u : TableCell). length u.pins) (sym r.1.1) ∙ length-map r.0.pins (wire_number k.graph device.profile.rules a.site.tile)))
 
   pub sizes_fit : SizesFit (circuit_of k)
   sizes_fit = record {

@@ -10,7 +10,7 @@ use Rattle.records.specs.Profile.{Take, TakeWire, TakeNotWire, TakeZero, TakeOne
 use Rattle.fabric.specs.Graph.{Graph}
 use Rattle.fabric.specs.Values.{value_at}
 use Rattle.circuit.specs.Cells.{InputPad, ClockPad}
-use Rattle.cells.specs.Takes.{case_with, case_of, taken, suits}
+use Rattle.cells.specs.Takes.{case_with, case_of, take_at, suits}
 use Rattle.fabric_laws.proofs.Members.{find_from}
 use Rattle.fabric_laws.proofs.Numbered.{get_in}
 use Rattle.cells_laws.proofs.Options.{mapped_from, then_from}
@@ -25,7 +25,7 @@ case_listed g image tile choice c h = go choice.setting h
         (find_from (λ (d : Case). option_map_or (bytes_eq v.0) d.value false) choice.cases c v.1.1).0
 
 -- what a choice takes is what one of its cases does
-pub taken_by : (g : Graph) (image : Bits) (tile : ℕ) (choice : Choice) (t : Take) → taken g image tile choice ≡ Some t → (c : Case) × (In choice.cases c × (c.take ≡ t))
+pub taken_by : (g : Graph) (image : Bits) (tile : ℕ) (choice : Choice) (t : Take) → take_at g image tile choice ≡ Some t → (c : Case) × (In choice.cases c × (c.take ≡ t))
 taken_by g image tile choice t h =
     let c = mapped_from (λ (d : Case). d.take) (case_of g image tile choice) t h in
     (c.0, (case_listed g image tile choice c.0 c.1.0, c.1.1))

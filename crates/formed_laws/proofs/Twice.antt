@@ -4,9 +4,9 @@ use Rattle.std.specs.Prelude.{slice_get}
 use Rattle.std.proofs.lemmas.List.{map-append}
 use Rattle.std.proofs.lemmas.List.Concat.{flat_map-append}
 use Rattle.words.specs.Members.{In}
+use Rattle.words.specs.Twice.{HasNoneTwice}
 use Rattle.links.proofs.Members.{in_left, in_right, in_either, in_map, in_flat_map}
 use Rattle.fabric_laws.proofs.Numbered.{get_in}
-use Rattle.formed_laws.specs.Twice.{HasNoneTwice}
 
 -- no element stands in both parts
 pub not_both : {X : Type 0} (xs ys : List X) → HasNoneTwice (xs ++ ys) → (z : X) → In xs z → In ys z → ⊥

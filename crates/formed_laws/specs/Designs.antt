@@ -1,11 +1,11 @@
 -- A design that is read. (Our own.)
 use Rattle.std.specs.Prelude.{◌≡◌, Ok}
+use Rattle.words.specs.Twice.{HasNoneTwice}
 use Rattle.fabric.specs.Device.{Device}
 use Rattle.fabric.specs.Graph.{Graph}
 use Rattle.fabric.specs.GraphOf.{outputs_of, IsGraph}
 use Rattle.cells.specs.CellsOf.{cells_of}
 use Rattle.upset.specs.Configured.{Configured}
-use Rattle.formed_laws.specs.Twice.{HasNoneTwice}
 use Rattle.formed_laws.specs.SideRead.{IsApart}
 use Rattle.formed_laws.specs.ProfileRead.{IsFit}
 use Rattle.formed_laws.specs.Readers.{IsReadProfile, IsReadSide}

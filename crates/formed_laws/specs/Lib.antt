@@ -1,5 +1,5 @@
-pub mod Twice
 pub mod SideRead
 pub mod ProfileRead
 pub mod Readers
 pub mod Designs
+pub mod DatabaseRead

@@ -1,11 +1,11 @@
 -- What a profile says that a reader takes. (Our own.)
 use Rattle.std.specs.Prelude.{◌≡◌, ◌≤◌, ℕ, List, ◌++◌, length, map, Some}
 use Rattle.words.specs.Members.{In}
+use Rattle.words.specs.Twice.{HasNoneTwice}
 use Rattle.records.specs.Profile.{TakeIn, TakeOut, Case, TableKind, SliceKind, PadKind, Profile}
 use Rattle.fabric.specs.WireNames.{BeginsWithOne}
 use Rattle.json_forms.specs.KindRules.{slice_name, pad_name}
 use Rattle.cells.specs.Standing.{slice_wires, pad_wires}
-use Rattle.formed_laws.specs.Twice.{HasNoneTwice}
 
 -- as many settings, tables, pins of each table in turn, and registers
 pub record HaveEqualCounts (k l : SliceKind) : Type 0 where

@@ -1,10 +1,10 @@
 -- What a side file says that a reader takes. (Our own.)
 use Rattle.std.specs.Prelude.{◌≡◌, ℕ, List, ◌++◌, map, flat_map}
 use Rattle.words.specs.Members.{In}
+use Rattle.words.specs.Twice.{HasNoneTwice}
 use Rattle.records.specs.Side.{Domain, D0, D1, D2, Placed, Triple, Side}
 use Rattle.side_form.specs.Side.{pad_triples}
 use Rattle.circuit.specs.Triples.{names_of, IsEntry, all_triples}
-use Rattle.formed_laws.specs.Twice.{HasNoneTwice}
 
 -- all placed cells, slices and pads
 abbrev pub placed_cells : Side → List Placed

@@ -1,5 +1,6 @@
-//! Laws of what readers leave: the cells of an image that is read are well formed. There is no code but laws, each the
-//! contract of a function with an empty body.
+//! Laws of what is read: in databases, devices, profiles and side files that are read nothing is named twice, and the
+//! cells of a design that is read are well formed. There is no code but laws, each the contract of a function with an
+//! empty body.
 #![tactic(auto)]
 
 ghost use Rattle.cells.specs.CellsOf.{IsCircuitOf};
@@ -26,10 +27,13 @@ ghost use Rattle.records.specs.Side.{Domain, Side};
 ghost use Rattle.repair.specs.Turns.{routing};
 ghost use Rattle.repair_laws.specs.Ready.{IsReady};
 ghost use Rattle.std.specs.Prelude.{map};
+ghost use Rattle.records.specs.Database.{TileDb};
 ghost use Rattle.upset.specs.Configured.{Configured, circuit_of};
 ghost use Rattle.upset.specs.Effect.{IsEffect};
 ghost use Rattle.upset.specs.Safe.{IsBad, IsMuxFault, IsSafe};
 ghost use Rattle.upset_laws.specs.PlainUpset.{OutputsListed};
+ghost use Rattle.layout_laws.specs.Named.{NamesOnce};
+ghost use Rattle.formed_laws.specs.DatabaseRead.{HasNamesOnce, IsReadDatabase, IsReadDevice};
 
 /// In a side file that is read no two cells have one name or one site, each entry of a triple is a cell of its list in
 /// the domain of its place, and each cell is in exactly one triple.
@@ -83,4 +87,14 @@ pub fn read_design_is_masked()
     ensures mux_bits { (device : Device) (k : Configured) → IsReadDesign device k → IsClean (routing k) → IsTriplicated (circuit_of k) → IsSafe k
         → (f : Fault) → IsMuxFault k f
         → ((d : Domain) × RightOutside (circuit_of k) f d) × TwoAreRight (circuit_of k) f }
+{}
+
+/// In a database that is read no mux, word or enum is declared twice, no arc of a mux and no option of an enum.
+pub fn read_database_names_once()
+    ensures { (db : TileDb) → IsReadDatabase db → HasNamesOnce db }
+{}
+
+/// So a device that is read names nothing twice, which the laws of layouts ask.
+pub fn read_device_names_once()
+    ensures { (device : Device) → IsReadDevice device → NamesOnce device }
 {}

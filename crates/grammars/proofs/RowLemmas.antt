@@ -1,10 +1,10 @@
 -- Reading row by row gives what the sections of all rows say, or the fault of the first faulty one.
 use Rattle.std.proofs.Common.{◌≡◌, ℕ, List, [], ◌∷◌, ◌++◌, Option, Some, None, Result, Ok, Err, Bool, true, false, cond, map, filter, refl, sym, ap, ◌∙◌, append_assoc}
 use Rattle.std.proofs.lemmas.List.{append-nil}
-use Rattle.words.specs.Firsts.{first_fault_after, first_fault, or_else}
+use Rattle.words.specs.Firsts.{first_fault_after, first_fault, or_else, unless_fault}
 use Rattle.texts.specs.Lines.{Line, lines_of}
 use Rattle.grammars.specs.Rows.{Row, has_words, rows_of}
-use Rattle.grammars.specs.BitsDb.{DbFault, Head, head_of, Section, row_before, rows_up_to_head, section_before, sections_of, Reading, reading_of, fault_of, unless_fault, database_of}
+use Rattle.grammars.specs.BitsDb.{DbFault, Head, head_of, Section, row_before, rows_up_to_head, section_before, sections_of, Reading, reading_of, fault_of, database_of}
 use Rattle.grammars.specs.RowByRow.{with_words, row_step, line_row, line_step, go_on, read_rows, read_lines, nothing_read, database_read}
 use Rattle.grammars.proofs.Readings.{sections_with, one_more_row}
 

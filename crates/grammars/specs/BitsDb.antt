@@ -1,13 +1,13 @@
 -- The grammar of `bits.db`, the database of a tile type. Its rows make sections: a head, and the rows up to
 -- the next head. (After Project Trellis; limits, comments, and that nothing stands twice are our own.)
-use Rattle.std.specs.Prelude.{ℕ, Bool, false, not, List, [], ◌∷◌, length, filter, filter_map, Option, Some, None, option_map, Result, Ok, Err, codes, nat_lt, if◌then◌else◌, ◌==◌, ◌&&◌}
+use Rattle.std.specs.Prelude.{ℕ, Bool, false, not, List, [], ◌∷◌, length, filter, filter_map, Option, Some, None, option_map, Result, codes, nat_lt, if◌then◌else◌, ◌==◌, ◌&&◌}
 use Rattle.std.specs.List.{list_any}
 use Rattle.std.specs.Str.{bytes_eq}
-use Rattle.words.specs.Firsts.{first_fault}
+use Rattle.words.specs.Firsts.{first_fault, unless_fault}
 use Rattle.patterns.specs.Bits.{PatternBit}
 use Rattle.texts.specs.Names.{is_name}
 use Rattle.texts.specs.PatternBits.{pattern_bit_of}
-use Rattle.records.specs.Limits.{Limit, PatternBits}
+use Rattle.records.specs.Limits.{Limit, PatternBits, most_pattern_bits}
 use Rattle.records.specs.Database.{Arc, Mux, WordSetting, EnumOption, EnumSetting, Fixed, TileDb}
 use Rattle.grammars.specs.Rows.{Row, rows_of}
 
@@ -195,12 +195,8 @@ last_of [] = None
 last_of (x ∷ []) = Some x
 last_of (x ∷ y ∷ ys) = last_of (y ∷ ys)
 
--- the most bits of a pattern
-abbrev pub most_bits : ℕ
-most_bits = 32
-
 abbrev pub pattern_fault : List PatternBit → Option DbFault
-pattern_fault bits = some_if (nat_lt most_bits (length bits)) (TooLarge PatternBits)
+pattern_fault bits = some_if (nat_lt most_pattern_bits (length bits)) (TooLarge PatternBits)
 
 -- a pattern, unless the test makes its line a bad one
 abbrev pub entry_fault : ℕ → Bool → List PatternBit → Option DbFault
@@ -269,11 +265,6 @@ words_fault number reading None words =
 -- the fault of a row with those before it
 abbrev pub fault_of : List Row → Row → Option DbFault
 fault_of before row = words_fault row.number (reading_of (sections_of before)) (head_of row.words) row.words
-
--- a fault, or the value where there is none
-abbrev pub unless_fault : {X F : Type 0} → Option F → X → Result X F
-unless_fault None value = Ok value
-unless_fault (Some fault) value = Err fault
 
 -- What the bytes of a database are read as: the first fault of its rows, or what its sections say.
 abbrev pub database_of : List ℕ → Result TileDb DbFault

@@ -2,11 +2,12 @@
 -- it gives what `database_of` says is a law.
 use Rattle.std.specs.Prelude.{ℕ, Bool, List, [], ◌∷◌, ◌++◌, Option, Some, None, Result, Ok, Err, if◌then◌else◌}
 use Rattle.std.specs.List.{list_any}
+use Rattle.words.specs.Firsts.{unless_fault}
 use Rattle.patterns.specs.Bits.{PatternBit}
 use Rattle.texts.specs.Lines.{Line, before_hash}
 use Rattle.records.specs.Database.{Arc, Mux, WordSetting, EnumOption, EnumSetting, Fixed, TileDb}
 use Rattle.grammars.specs.Rows.{Row, row_of, has_words}
-use Rattle.grammars.specs.BitsDb.{DbFault, Head, MuxHead, WordHead, EnumHead, FixedHead, head_of, arc_of, bits_of, option_of, same_ends, Kind, OfMux, OfWord, OfEnum, OfFixed, kind_of, Reading, words_fault, unless_fault}
+use Rattle.grammars.specs.BitsDb.{DbFault, Head, MuxHead, WordHead, EnumHead, FixedHead, head_of, arc_of, bits_of, option_of, same_ends, Kind, OfMux, OfWord, OfEnum, OfFixed, kind_of, Reading, words_fault}
 
 -- the last of a list, changed
 abbrev pub with_last : {X : Type 0} → (X → X) → List X → List X

@@ -5,9 +5,9 @@ use Rattle.std.specs.List.{list_all}
 use Rattle.std.proofs.lemmas.Bool.Decides.{nat_tests}
 use Rattle.patterns.specs.Bits.{DeviceBit, Bits, bits_of_list}
 use Rattle.patterns.specs.Fits.{fits}
+use Rattle.texts.specs.Printing.{spaced, line_feed}
 use Rattle.records.specs.Database.{Arc, Mux}
 use Rattle.fabric.specs.Chosen.{is_longest}
-use Rattle.answers.specs.Texts.{spaced, line_feed}
 use Rattle.answers.specs.Drivers.{no_origin, chosen_sources, or_dash, driver_line}
 use Rattle.harden_program.specs.Longest.{longest_fit, sources_of, has_any}
 

@@ -4,7 +4,7 @@ ghost use Rattle.std.specs.Prelude.{◌≡◌, ◌++◌, ◌∷◌, ◌==◌, []
 ghost use Rattle.std.specs.List.{flat_map};
 ghost use Rattle.patterns.specs.Bits.{bits_of_list, device_bit};
 ghost use Rattle.patterns.specs.Fits.{fits as fits_of};
-ghost use Rattle.answers.specs.Texts.{spaced};
+ghost use Rattle.texts.specs.Printing.{spaced};
 ghost use Rattle.answers.specs.Drivers.{no_origin, chosen_sources, or_dash, driver_line, drivers_text as text_of};
 ghost use Rattle.harden_program.specs.Longest.{longest_fit as longest_fit_of, sources_of, has_any};
 

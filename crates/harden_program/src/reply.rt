@@ -2,8 +2,9 @@
 
 ghost use Rattle.std.specs.Prelude.{◌≡◌, ◌++◌, ◌∷◌, [], ◌<◌, ◌^◌, IfOk, codes};
 ghost use Rattle.std.specs.Fmt.{decimal};
+ghost use Rattle.texts.specs.Printing.{spaced, line_feed};
 ghost use Rattle.answers.specs.Answers as answers;
-ghost use Rattle.answers.specs.Texts.{spaced, line_feed, usage_text, read_fault_text, refused_text};
+ghost use Rattle.answers.specs.Texts.{usage_text, read_fault_text, refused_text};
 ghost use Rattle.harden_program.specs.Refused.{refusal_view};
 
 use super::Status;

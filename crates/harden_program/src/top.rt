@@ -2,8 +2,8 @@
 
 ghost use Rattle.std.specs.Prelude.{◌≡◌, ◌≢◌, ◌≤◌, map, length, string_bytes, Some, Ok, Err, IfOk, IfErr};
 ghost use Rattle.words.specs.Rose.{Rose};
+ghost use Rattle.records.specs.Limits.{most_database_bytes};
 ghost use Rattle.answers.specs.Words as words_of;
-ghost use Rattle.answers.specs.Drivers.{most_database_bytes};
 ghost use Rattle.answers.specs.Answers as answers;
 ghost use Rattle.answers.specs.Ends.{Ends, IsKnown, UsageOnly, HasCause, NoFaultSwallowed, Completes, HasRisen, count};
 ghost use Rattle.harden_program.specs.Replies.{IsDriversStatus, IsReply, IsProper, ReplyCounts, UsageReply};

@@ -4,6 +4,7 @@ use Rattle.std.specs.Prelude.{Ok}
 use Rattle.std.specs.Str.{is_utf8, chars}
 use Rattle.std.proofs.lemmas.Bool.{leb-true}
 use Rattle.serde_json.proofs.OnLiterals.{serde_json_on_literals}
+use Rattle.records.specs.Limits.{most_config_bytes, most_json_bytes}
 use Rattle.json_forms.specs.Values.{reading_of}
 use Rattle.json_forms.specs.MiniGrid.{mini_grid_text}
 use Rattle.json_forms.specs.Places.{place_of}
@@ -22,7 +23,7 @@ use Rattle.mini.specs.ToggleCells.{toggle_cells}
 use Rattle.config_grammar.specs.ConfigText.{configuration_of}
 use Rattle.config_grammar.specs.ConfigPrint.{config_text}
 use Rattle.side_form.specs.SidePrint.{side_text}
-use Rattle.design_files.specs.Names.{most_config_bytes, most_json_bytes, grid_name, types_of}
+use Rattle.design_files.specs.Names.{grid_name, types_of}
 use Rattle.design_files.specs.Parsed.{or_refused, parsed, form_refusal, read_grid, read_profile}
 use Rattle.design_files.specs.Designs.{Design, databases_in, design_of}
 use Rattle.design_checks.specs.DesignChecks.{configured_as, IsAccepted}
@@ -30,9 +31,10 @@ use Rattle.formed_examples.specs.Texts as texts
 use Rattle.formed_examples.proofs.Texts.{profile_is, side_is}
 use Rattle.check_laws.specs.Accepted.{IsSound}
 use Rattle.text_laws.proofs.SidePrinted.{side_formed}
+use Rattle.check_laws.proofs.FilesParsed.{parsed_read}
 use Rattle.written_laws.specs.Written.{IsReadAgain}
 use Rattle.written_laws.proofs.Written.{sound_is_read_again}
-use Rattle.written_laws.proofs.Later.{short_read, config_short, side_short, design_of_parts}
+use Rattle.written_laws.proofs.Later.{short_read, config_short, side_short}
 use Rattle.hardening_examples.specs.CrossedDesign.{crossed_design}
 use Rattle.hardening_examples.specs.CrossedFiles.{crossed_inputs, crossed_files}
 use Rattle.hardening_examples.proofs.Hardened.{crossed_sound}
@@ -79,13 +81,15 @@ crossed_accepted = (
 
     there : design_of crossed_files crossed_inputs ≡ Ok its
     there =
-        design_of_parts crossed_files crossed_inputs read_again.again.config mini_a.grid mini_a.profile toggle_side mini_a.types
-        (config_short crossed_files crossed_inputs.config (config_text crossed) read_again.again.config refl (leb-true (length (config_text crossed)) most_config_bytes refl) read_again.text_read)
-        (ap (λ name. parsed name most_json_bytes (read_grid name) (crossed_files name)) (ap (grid_name crossed_inputs.family) read_again.device_named)
-        ∙ short_read grid_file most_json_bytes (read_grid grid_file) (crossed_files grid_file) mini_grid_text mini_a.grid refl (leb-true (length mini_grid_text) most_json_bytes refl) (ap (or_refused (form_refusal grid_file)) grid_is))
-        (short_read crossed_inputs.profile most_json_bytes (read_profile crossed_inputs.profile) (crossed_files crossed_inputs.profile) texts.profile_text mini_a.profile refl (leb-true (length texts.profile_text) most_json_bytes refl) (ap (or_refused (form_refusal crossed_inputs.profile)) profile_is))
-        (side_short crossed_files crossed_inputs.side texts.side_text toggle_side refl (leb-true (length texts.side_text) most_json_bytes refl) side_is)
-        types_are
+        parsed_read crossed_files crossed_inputs its (record {
+          config = config_short crossed_files crossed_inputs.config (config_text crossed) read_again.again.config refl (leb-true (length (config_text crossed)) most_config_bytes refl) read_again.text_read;
+          grid =
+              ap (λ name. parsed name most_json_bytes (read_grid name) (crossed_files name)) (ap (grid_name crossed_inputs.family) read_again.device_named)
+              ∙ short_read grid_file most_json_bytes (read_grid grid_file) (crossed_files grid_file) mini_grid_text mini_a.grid refl (leb-true (length mini_grid_text) most_json_bytes refl) (ap (or_refused (form_refusal grid_file)) grid_is);
+          profile = short_read crossed_inputs.profile most_json_bytes (read_profile crossed_inputs.profile) (crossed_files crossed_inputs.profile) texts.profile_text mini_a.profile refl (leb-true (length texts.profile_text) most_json_bytes refl) (ap (or_refused (form_refusal crossed_inputs.profile)) profile_is);
+          side = side_short crossed_files crossed_inputs.side texts.side_text toggle_side refl (leb-true (length texts.side_text) most_json_bytes refl) side_is;
+          types = types_are;
+        })
 
 -- the design that is accepted: its text as it is read, on MINI-A, with the toggle's side file
 pub accepted_text : configuration_of (config_text crossed) ≡ Ok crossed_accepted.0.config

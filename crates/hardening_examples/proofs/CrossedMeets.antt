@@ -1,7 +1,8 @@
 -- The crossed toggle on MINI-A meets what is asked of a design before it is hardened.
 use Rattle.std.proofs.Common.{◌≡◌, ℕ, Bool, true, not, ◌||◌, eqb, inl, refl}
 use Rattle.std.specs.List.{list_any, list_all}
-use Rattle.links.proofs.Below.{has, has_in, below, below_complete}
+use Rattle.links.proofs.Below.{has_in, below_complete}
+use Rattle.links.specs.Below.{has, below}
 use Rattle.fabric.specs.Agree.{ArcsAgree}
 use Rattle.fabric_laws.specs.PlainGraph.{graph_of}
 use Rattle.fabric_laws.proofs.Members.{all_from, imp_from}

@@ -6,11 +6,11 @@ use Rattle.mini.specs.Toggle.{crossed, toggle}
 use Rattle.repair.specs.Layouts.{configured}
 use Rattle.attempts.specs.Attempts.{AttemptComplete}
 use Rattle.design_answers.specs.Headline.{Hardens}
+use Rattle.formed_laws.proofs.Names.{device_names_once}
 use Rattle.upset_examples.proofs.Conditions.{crossed_clean}
 use Rattle.formed_examples.proofs.Databases.{device_read}
 use Rattle.route_examples.specs.Crossed.{with_cells, crossed_job}
 use Rattle.route_examples.proofs.Mended.{answered}
-use Rattle.named_laws.proofs.Names.{device_names_once}
 use Rattle.headline_laws.specs.Sound.{IsSoundJob}
 use Rattle.headline_laws.proofs.Hardened.{hardened_design_keeps_outputs}
 use Rattle.hardening_examples.proofs.CrossedMeets.{crossed_read, crossed_agrees, crossed_modelled, crossed_triplicated}

@@ -1,8 +1,9 @@
 -- The crossed toggle on MINI-A as a design that is to be hardened. (Our own.)
 use Rattle.std.specs.Prelude.{codes}
+use Rattle.records.specs.Ripping.{RipUnsafe}
 use Rattle.mini.specs.MiniA.{mini_a}
 use Rattle.mini.specs.Toggle.{crossed, toggle_side}
-use Rattle.commands.specs.Commands.{Hardening, RipUnsafe}
+use Rattle.commands.specs.Commands.{Hardening}
 use Rattle.design_files.specs.Designs.{Design}
 
 abbrev pub crossed_design : Design

@@ -81,7 +81,7 @@ module _ (job : Job) (sound : IsSoundJob job) (y : Layout) (k : KeepsDesign job 
   )
 
   pub kept_hardens : Hardens (configured job.design) (configured y)
-  kept_hardens = record { side = k.side; pads = k.pads; outputs = gives; masked = masked }
+  kept_hardens = record { side = k.side; outputs = gives; masked = masked }
 
 -- the circuit of what is written
 module _ (job : Job) (sound : IsSoundJob job) (log : List Event) (y : Layout) (n : ℕ) (a : IsAnswer job (Ended log (Routed y n))) where

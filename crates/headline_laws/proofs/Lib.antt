@@ -11,3 +11,5 @@ pub mod Starts
 pub mod Moves
 pub mod Runs
 pub mod Hardened
+pub mod Reading
+pub mod Accepted

@@ -8,7 +8,7 @@ use Rattle.circuit.specs.Pins.{PinRef, Pin, pin_at, table_pins, pins}
 use Rattle.circuit.specs.Triples.{PartTriple}
 use Rattle.circuit.specs.Circuits.{Circuit}
 use Rattle.circuit.specs.Worlds.{word_bit, table_output}
-use Rattle.circuit.specs.Tables.{Assigned, SameBut, Masks}
+use Rattle.circuit.specs.Tables.{Assigned, SameBitsBut, Masks}
 use Rattle.circuit.specs.Designs.{table_shape}
 use Rattle.links.proofs.Members.{any_of}
 use Rattle.circuit_laws.proofs.Parts.{bit_pin_listed, table_bit}
@@ -102,7 +102,7 @@ module _ {c e : Circuit} (al : Alike c e) (s u : Source) (t v : TableCell) (is :
       let b = cross al a p q.0 cn (pin_there q.0 q.1.0) q.1.1.0 in
       q.1.1.1 ∙ h q.0 b.0 q.1.0 b.1.0 ∙ ap bits (sym (group_same c.side e.side al.same.sides a.part b.0.part (ap (λ z. z.part) (sym b.1.1))))
 
-  pub moved_but : (d : Domain) (x y : Pin → Bool) → SameBut e d u v x y → SameBut c d s t (moved x) (moved y)
+  pub moved_but : (d : Domain) (x y : Pin → Bool) → SameBitsBut e d u v x y → SameBitsBut c d s t (moved x) (moved y)
   unfolding moved
   moved_but d x y h = λ p i n.
       let q = moved_at x p i in

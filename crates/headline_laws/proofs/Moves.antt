@@ -24,10 +24,9 @@ use Rattle.cells_laws.proofs.Faults.{cells_accepted}
 use Rattle.json_forms.specs.KindRules.{slice_name, pad_name}
 use Rattle.fabric.specs.GraphOf.{IsGraph}
 use Rattle.std.proofs.lemmas.Slice.Eq.{bytes_eq-Decides}
+use Rattle.words.specs.Twice.{HasNoneTwice, NoTwo}
 use Rattle.fabric_laws.proofs.Numbered.{get_in}
-use Rattle.layout_laws.specs.Named.{NoTwo}
 use Rattle.formed_laws.specs.Designs.{NoOverlap}
-use Rattle.formed_laws.specs.Twice.{HasNoneTwice}
 use Rattle.formed_laws.specs.SideRead.{site_of, placed_cells, Lists, IsPaired, IsApart}
 use Rattle.formed_laws.specs.ProfileRead.{IsFit}
 use Rattle.formed_laws.proofs.ProfileRead.{read_fit}
@@ -217,7 +216,6 @@ module _ (job : Job) (sound : IsSoundJob job) (state : State) (keeps : StateKeep
   step_keeps_design = record {
     graph = graph;
     side = subst (SameSide job.design.side) (sym c.moved.side) (same_side move job.design.side state.layout.side keeps.design.side);
-    pads = keeps.design.pads ∙ ap (λ (s : Side). s.pads) (sym c.moved.side);
     apart = apart;
     parts = keeps.design.parts ∙ sym c.alike;
     cells = made;

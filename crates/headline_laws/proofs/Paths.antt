@@ -100,7 +100,6 @@ module _ (job : Job) (sound : IsSoundJob job) (y : Layout) (k : KeepsDesign job 
   path_keeps = record {
     graph = k.graph;
     side = k.side;
-    pads = k.pads;
     apart = k.apart;
     parts = k.parts;
     cells = cells_same y.graph job.device.profile (configured there).image (configured y).image added.words added.enums y.side ∙ k.cells;

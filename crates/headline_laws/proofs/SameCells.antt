@@ -11,7 +11,7 @@ use Rattle.fabric.specs.Graph.{Graph}
 use Rattle.fabric.specs.Values.{word_at, value_at}
 use Rattle.circuit.specs.Cells.{InputZero}
 use Rattle.cells.specs.Sites.{Site, slice_site, pad_site, unnamed_pads}
-use Rattle.cells.specs.Takes.{choice_value, case_with, taken, wire_at, input_of, is_one, suits, takes_out}
+use Rattle.cells.specs.Takes.{choice_value, case_with, take_at, wire_number, input_of, is_one, suits, takes_out}
 use Rattle.cells.specs.Resolved.{word_of, table_cell, input_at, register_cell, site_bits, slice_cell, role_of}
 use Rattle.cells.specs.Readings.{require_reading, digits_of, table_reading, choice_reading, choices_of, slice_readings, pad_reading, slices_of, pads_of, readings}
 use Rattle.cells.specs.Faults.{UnnamedPad, site_fault, shape_fault, value_fault, unnamed_fault, cell_fault}
@@ -19,7 +19,7 @@ use Rattle.cells.specs.CellsOf.{slice_cells, pad_cells, unless, cells_of}
 
 module _ (g : Graph) (profile : Profile) (one other : Bits) (words : (n : ℕ) (name : List ℕ) → word_at g one n name ≡ word_at g other n name)
     (values : (n : ℕ) (name : List ℕ) → value_at g one n name ≡ value_at g other n name) where
-  taken_same : (n : ℕ) (c : Choice) → taken g one n c ≡ taken g other n c
+  taken_same : (n : ℕ) (c : Choice) → take_at g one n c ≡ take_at g other n c
   taken_same n c k = option_map (λ d. d.take) (option_map_or (λ setting. option_and_then (case_with c.cases) (values n setting k)) c.setting (slice_get c.cases 0))
 
   value_same : (n : ℕ) (c : Choice) → choice_value g one n c ≡ choice_value g other n c
@@ -30,12 +30,12 @@ module _ (g : Graph) (profile : Profile) (one other : Bits) (words : (n : ℕ) (
   table_same : (site : Site SliceKind) (t : TableKind) → table_cell g profile.rules one site t ≡ table_cell g profile.rules other site t
   table_same site t k = record {
     word = word_of (unwrap_or (words site.number t.word k) []);
-    pins = map (wire_at g profile.rules site.tile) t.pins;
-    out = wire_at g profile.rules site.tile t.out;
+    pins = map (wire_number g profile.rules site.tile) t.pins;
+    out = wire_number g profile.rules site.tile t.out;
   }
 
   input_same : (site : Site SliceKind) (c : Choice) → input_at g profile.rules one site c ≡ input_at g profile.rules other site c
-  input_same site c k = option_map_or (input_of (wire_at g profile.rules site.tile)) (taken_same site.number c k) InputZero
+  input_same site c k = option_map_or (input_of (wire_number g profile.rules site.tile)) (taken_same site.number c k) InputZero
 
   register_same : (site : Site SliceKind) (r : RegisterKind) → register_cell g profile.rules one site r ≡ register_cell g profile.rules other site r
   register_same site r k = record {
@@ -44,7 +44,7 @@ module _ (g : Graph) (profile : Profile) (one other : Bits) (words : (n : ℕ) (
     reset = input_same site r.reset k;
     set = option_map_or is_one (taken_same site.number r.set k) false;
     clock = input_same site r.clock k;
-    out = wire_at g profile.rules site.tile r.out;
+    out = wire_number g profile.rules site.tile r.out;
   }
 
   slice_same : (p : Placed) (site : Site SliceKind) → slice_cell g profile.rules one p site ≡ slice_cell g profile.rules other p site

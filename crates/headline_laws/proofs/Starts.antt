@@ -16,7 +16,7 @@ use Rattle.links.proofs.Members.{in_left, in_right, in_either}
 use Rattle.formed_laws.proofs.SideRead.{read_apart}
 use Rattle.formed_laws.proofs.ProfileRead.{read_fit}
 use Rattle.attempts.specs.Jobs.{Job, State, read_of}
-use Rattle.attempts.specs.Starts.{IsStart}
+use Rattle.attempts.specs.Starts.{IsFirstState}
 use Rattle.attempt_laws.proofs.Starts.{same_layout}
 use Rattle.headline_laws.specs.Sound.{IsSoundJob}
 use Rattle.headline_laws.specs.Kept.{KeepsDesign, StateKeeps}
@@ -81,7 +81,6 @@ module _ (job : Job) (sound : IsSoundJob job) where
     rest_keeps safe = record {
       graph = refl;
       side = record { slices = refl; pads = refl; triples = refl; inputs = refl; outputs = refl; clocks = refl; voters = refl };
-      pads = refl;
       apart = read_apart job.design.side sound.read.side;
       parts = refl;
       cells = cells_same job.design.graph job.device.profile (configured (with_text config)).image design.image kept.words kept.enums job.design.side ∙ sound.read.cells;
@@ -108,7 +107,7 @@ module _ (job : Job) (sound : IsSoundJob job) where
       to = c.to;
     }
 
-  pub start_keeps : (state : State) → IsStart job state → IsSafe (configured state.layout) → StateKeeps job state
+  pub start_keeps : (state : State) → IsFirstState job state → IsSafe (configured state.layout) → StateKeeps job state
   start_keeps state s safe =
       let r = listed_rest (IsRipped job.rip job.device design) job.design.config design state.layout.config s.text in
       let same : with_text state.layout.config ≡ state.layout = same_layout (with_text state.layout.config) state.layout (sym s.graph) refl (sym s.cells) (sym s.side) in

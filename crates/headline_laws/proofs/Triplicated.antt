@@ -7,7 +7,7 @@ use Rattle.circuit.specs.Cells.{TableCell, Input, InputWire, InputNotWire, Input
 use Rattle.circuit.specs.Parts.{PartRef, Kind, OfTable, OfRegister, OfInput, OfClock, Source, sources, output_pads}
 use Rattle.circuit.specs.Pins.{PinRef, Pin, pin_at, input_pin, data_pins, bit_pins, clock_pins, clock_pins_of, source_pins, pad_pin, pins}
 use Rattle.circuit.specs.Triples.{IsEntry, all_triples, triple_of}
-use Rattle.circuit.specs.Circuits.{Circuit, Connects, Reads}
+use Rattle.circuit.specs.Circuits.{Circuit, Connects, IsReadBy}
 use Rattle.circuit.specs.Domains.{HasDomain}
 use Rattle.circuit.specs.Tables.{Ignores, TablesAlike}
 use Rattle.circuit.specs.Registers.{FedAlike, TakesAlike, RegistersAlike}
@@ -279,7 +279,7 @@ module _ {c e : Circuit} (al : Alike c e) (tc : IsTriplicated c) where
   has_outputs = (tc.has_outputs.0, subst (λ ts. In ts tc.has_outputs.0) al.same.sides.outputs tc.has_outputs.1)
 
   -- what a table reads in one it reads in the other
-  reads_back : (a s b u : Source) → Reads e a s → In (sources c.cells) b → In (sources c.cells) u → source_shape b ≡ source_shape a → source_shape u ≡ source_shape s → Reads c b u
+  reads_back : (a s b u : Source) → IsReadBy e a s → In (sources c.cells) b → In (sources c.cells) u → source_shape b ≡ source_shape a → source_shape u ≡ source_shape s → IsReadBy c b u
   reads_back a s b u r ib iu sb su =
       let v = is_table u.kind r.table (ap (λ z. z.kind) su ∙ ap kind_shape r.is_table) in
       let p = twin_at s.part u.part 0 r.table.pins v.0.pins (ap (λ z. z.part) (sym su)) (sym v.1.1.pins) r.pin r.takes in
@@ -288,9 +288,9 @@ module _ {c e : Circuit} (al : Alike c e) (tc : IsTriplicated c) where
       let same : d.0 ≡ b = part_same c.cells al.sound.formed.names d.0 b d.1.0.source ib (ap (λ z. z.part) d.1.1 ∙ ap (λ z. z.part) (sym sb)) in
       record { table = v.0; is_table = v.1.0; listed = iu; pin = p.0; takes = p.1.0; connects = subst (λ z. Connects c z p.0) same d.1.0 }
 
-  reaches_back : {a s : Source} (b u : Source) → Reaches (Reads e) a s → In (sources c.cells) b → In (sources c.cells) u → source_shape b ≡ source_shape a → source_shape u ≡ source_shape s → Reaches (Reads c) b u
+  reaches_back : {a s : Source} (b u : Source) → Reaches (IsReadBy e) a s → In (sources c.cells) b → In (sources c.cells) u → source_shape b ≡ source_shape a → source_shape u ≡ source_shape s → Reaches (IsReadBy c) b u
   reaches_back b u here ib iu sb su =
-      subst (Reaches (Reads c) b) (part_same c.cells al.sound.formed.names b u ib iu (ap (λ z. z.part) sb ∙ ap (λ z. z.part) (sym su))) here
+      subst (Reaches (IsReadBy c) b) (part_same c.cells al.sound.formed.names b u ib iu (ap (λ z. z.part) sb ∙ ap (λ z. z.part) (sym su))) here
   reaches_back b u (onto {b = m} {c = s} q step) ib iu sb su =
       let v = twin_part ba m step.connects.source in
       onto (reaches_back b v.0 q ib v.1.0 sb v.1.1) (reads_back m s v.0 u step v.1.0 iu v.1.1 su)

@@ -20,7 +20,6 @@ use Rattle.check_laws.specs.Accepted.{FeedsAreModelled}
 pub record KeepsDesign (job : Job) (y : Layout) : Type 0 where
   pub graph : y.graph ≡ job.design.graph
   pub side : SameSide job.design.side y.side
-  pub pads : job.design.side.pads ≡ y.side.pads
   pub apart : IsApart y.side
   pub parts : shape_of job.design.cells ≡ shape_of y.cells
   pub cells : cells_of y.graph job.device.profile (configured y).image y.side ≡ Ok y.cells

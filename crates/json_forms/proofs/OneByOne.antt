@@ -2,8 +2,8 @@
 use Rattle.std.proofs.Common.{◌≡◌, List, [], ◌∷◌, ◌++◌, Option, Some, None, option_map, Result, Ok, Err, refl, ap, sym, append_assoc}
 use Rattle.std.specs.Result.{result_ok, result_err}
 use Rattle.std.specs.List.{cons_option}
-use Rattle.words.specs.Firsts.{first_fault_after, or_else}
-use Rattle.json_forms.specs.Results.{◌>>=◌, unless_fault}
+use Rattle.words.specs.Firsts.{first_fault_after, or_else, unless_fault}
+use Rattle.json_forms.specs.Results.{◌>>=◌}
 use Rattle.json_forms.specs.Each.{each, each_or_fault}
 
 -- where no element is judged by those before it, these don't matter

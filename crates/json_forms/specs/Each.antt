@@ -2,8 +2,7 @@
 use Rattle.std.specs.Prelude.{List, [], ◌∷◌, Option, Some, option_map, option_and_then, Result}
 use Rattle.std.specs.Result.{result_ok, result_err}
 use Rattle.std.specs.List.{filter_map}
-use Rattle.words.specs.Firsts.{first_fault}
-use Rattle.json_forms.specs.Results.{unless_fault}
+use Rattle.words.specs.Firsts.{first_fault, unless_fault}
 
 -- what each element stands for, where each stands for something
 abbrev pub each : {X Y : Type 0} → (X → Option Y) → List X → Option (List Y)

@@ -1,26 +1,21 @@
 -- What the bytes of a grid, `tilegrid.json`, are read as. (After Project Trellis; limits and faults are our own.)
-use Rattle.std.specs.Prelude.{ℕ, suc, max, List, length, map, fold, Option, Some, None, Result, Err, codes, nat_lt, if◌then◌else◌}
+use Rattle.std.specs.Prelude.{ℕ, suc, max, List, length, map, fold, Option, Some, None, Result, Err, nat_lt, if◌then◌else◌}
 use Rattle.std.specs.List.{filter_map}
 use Rattle.std.specs.Set.{distinct_count}
 use Rattle.std.specs.Str.{bytes_eq}
 use Rattle.serde_json.specs.Data.{Data}
-use Rattle.records.specs.Limits.{Tiles, Types}
+use Rattle.words.specs.Firsts.{unless_fault}
+use Rattle.records.specs.Limits.{Tiles, Types, most_tiles, most_types}
 use Rattle.records.specs.Grid.{Tile, Grid}
-use Rattle.json_forms.specs.Results.{◌>>=◌, unless_fault}
+use Rattle.json_forms.specs.Results.{◌>>=◌}
 use Rattle.json_forms.specs.Each.{each_or_fault}
 use Rattle.json_forms.specs.Values.{Member, reading_of, object_in}
-use Rattle.json_forms.specs.Faults.{FormFault, NotJson, BadShape, TooLarge}
+use Rattle.json_forms.specs.Faults.{FormFault, NotJson, BadShape, TooLarge, top_key}
 use Rattle.json_forms.specs.Tiles.{tile_of}
 
 -- how many types tiles have
 abbrev pub type_count : List Tile → ℕ
 type_count tiles = distinct_count bytes_eq (map (λ tile. tile.kind) tiles)
-
-abbrev pub most_tiles : ℕ
-most_tiles = 65536
-
-abbrev pub most_types : ℕ
-most_types = 512
 
 -- the fault of too many tiles, or else of too many types
 abbrev pub count_fault : List Tile → Option FormFault
@@ -50,10 +45,6 @@ unfoldable pub grid_of_members : List Member → Result Grid FormFault
 grid_of_members ms = do
   tiles ← each_or_fault tile_of ms
   unless_fault (count_fault tiles) (grid_with tiles)
-
--- the key of a file that isn't an object
-abbrev pub top_key : List ℕ
-top_key = codes "."
 
 abbrev pub grid_of_value : Data → Result Grid FormFault
 grid_of_value d = elim (object_in d) [ None ↦ Err (BadShape top_key) | Some ms ↦ grid_of_members ms ]

@@ -6,6 +6,7 @@ use Rattle.std.specs.Set.{is_member}
 use Rattle.std.specs.Str.{bytes_eq}
 use Rattle.std.specs.Cmp.Lexicographic.{pointwise}
 use Rattle.records.specs.Profile.{Take, TakeWire, TakeNotWire, TakeIn, TakeOut, Case, Choice, TableKind, RegisterKind, SliceKind, PadKind}
+use Rattle.records.specs.Limits.{most_parts}
 
 -- ---- settings
 
@@ -104,9 +105,6 @@ pad_keeps_rules other_chips earlier kind =
     && has_wires_of_modes kind
     && not (is_member same_kind earlier (pad_name kind))
 
--- a kind has at most 8 tables and at most 8 registers
-abbrev pub most_parts : ℕ
-most_parts = 8
-
+-- a kind has few tables and few registers
 abbrev pub parts_fit : SliceKind → Bool
 parts_fit kind = nat_le (length kind.tables) most_parts && nat_le (length kind.registers) most_parts

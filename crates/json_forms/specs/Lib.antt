@@ -11,4 +11,5 @@ pub mod Parts
 pub mod Choices
 pub mod Kinds
 pub mod KindRules
+pub mod Lists
 pub mod Profile

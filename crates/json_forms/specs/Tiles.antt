@@ -1,16 +1,12 @@
 -- What a member of a grid, `tilegrid.json`, is read as. (After Project Trellis; bounds and faults are our own.)
-use Rattle.std.specs.Prelude.{ℕ, ◌-◌, ◌^◌, Bool, true, List, Option, Some, None, Result, Ok, Err, codes, nat_le, if◌then◌else◌, ◌&&◌}
+use Rattle.std.specs.Prelude.{ℕ, ◌-◌, Bool, true, List, Option, Some, None, Result, Ok, Err, codes, nat_le, if◌then◌else◌, ◌&&◌}
 use Rattle.serde_json.specs.Data.{Data}
-use Rattle.records.specs.Limits.{Place}
+use Rattle.records.specs.Limits.{Place, most_in_tile, most_in_place}
 use Rattle.records.specs.Grid.{Tile}
 use Rattle.json_forms.specs.Options.{◌>>=◌}
 use Rattle.json_forms.specs.Values.{Member, member_in, if_name, name_in, whole_in}
 use Rattle.json_forms.specs.Faults.{FormFault, BadShape, TooLarge}
 use Rattle.json_forms.specs.Places.{place_of}
-
--- the greatest `cols`, `rows`, `start_frame` and `start_bit`, so that each part of a device bit is below 2 ^ 32
-abbrev pub most_in_tile : ℕ
-most_in_tile = 2 ^ 31 - 1
 
 abbrev pub tile_number_in : List ℕ → Data → Option ℕ
 tile_number_in name d = member_in name (whole_in most_in_tile) d
@@ -26,10 +22,6 @@ tile_in m = do
   start_frame ← tile_number_in (codes "start_frame") m.value
   start_bit ← tile_number_in (codes "start_bit") m.value
   Some (record { name = name; kind = kind; place = place_of name; cols = cols; rows = rows; start_frame = start_frame; start_bit = start_bit })
-
--- the greatest row and column
-abbrev pub most_in_place : ℕ
-most_in_place = 255
 
 abbrev pub place_fits : Option (ℕ × ℕ) → Bool
 place_fits None = true

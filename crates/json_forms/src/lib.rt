@@ -19,7 +19,7 @@ pub fn small_grids_have_their_faults()
         ≡ Err (BadShape (codes "R1C1:MLC")) }
 {}
 
-/// A small grid is read as its three tiles.
+/// The grid of a small device is read as its eleven tiles.
 pub fn mini_grid_is_read()
     ensures { grid_of mini_grid_text ≡ Ok mini_grid }
 {}

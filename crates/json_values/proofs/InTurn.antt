@@ -5,11 +5,11 @@ use Rattle.std.specs.Option.{ok_or}
 use Rattle.std.specs.List.{filter_map, cons_option}
 use Rattle.std.proofs.lemmas.List.Elements.{filter_map-append}
 use Rattle.serde_json.specs.Data.{Data}
-use Rattle.words.specs.Firsts.{first_fault_after, or_else}
-use Rattle.json_forms.specs.Results.{◌>>=◌, unless_fault}
+use Rattle.words.specs.Firsts.{first_fault_after, or_else, unless_fault}
+use Rattle.json_forms.specs.Results.{◌>>=◌}
 use Rattle.json_forms.specs.Faults.{FormFault, BadShape}
-use Rattle.json_forms.specs.Profile.{Verdict, verdict_fault, element_key, element_verdict, element_fault, elements_read}
 use Rattle.json_forms.proofs.OneByOne.{behind}
+use Rattle.json_forms.specs.Lists.{Verdict, verdict_fault, element_key, element_verdict, element_fault, elements_read}
 use Rattle.json_values.specs.Elements.{element_read}
 
 -- what the elements of a list are read as, where some elements stand before the list

@@ -1,7 +1,7 @@
 //! How an element of a list stands behind those before it.
 
 ghost use Rattle.std.specs.Prelude.{◌≡◌, ◌∷◌, ◌++◌, [], List, IfOk, OnOk};
-ghost use Rattle.json_forms.specs.Profile.{Verdict as VerdictSpec, Fits, any_form};
+ghost use Rattle.json_forms.specs.Lists.{Verdict as VerdictSpec, Fits, any_form};
 ghost use Rattle.json_values.specs.Elements.{verdict_of};
 
 use rr_ids::Limit;

@@ -4,7 +4,7 @@ ghost use Rattle.std.specs.Prelude.{◌≡◌, ◌∷◌, ◌++◌, [], map, IfO
 ghost use Rattle.serde_json.specs.View.{view};
 ghost use Rattle.words.specs.OrMemory.{OrMemory};
 ghost use Rattle.json_forms.specs.Faults as form;
-ghost use Rattle.json_forms.specs.Profile.{element_key as element_key_spec, elements_read, list_read};
+ghost use Rattle.json_forms.specs.Lists.{element_key as element_key_spec, elements_read, list_read};
 ghost use Rattle.json_values.specs.Elements.{element_read};
 ghost use Rattle.json_values.specs.Faults.{list_fault};
 

@@ -3,10 +3,10 @@ use Rattle.std.proofs.Common.{◌≡◌, ℕ, ◌+◌, ◌≤◌, zero, suc, inl
 use Rattle.std.specs.Prelude.{slice_get}
 use Rattle.std.specs.List.{enumerate_from, cons_option}
 use Rattle.words.specs.Members.{In}
+use Rattle.words.specs.Twice.{NoTwo}
 use Rattle.links.proofs.Members.{in_either, of_flat_map}
 use Rattle.fabric_laws.proofs.Members.{in_filter_map_from}
 use Rattle.fabric_laws.proofs.Numbered.{get_in}
-use Rattle.layout_laws.specs.Named.{NoTwo}
 
 module _ {X : Type 0} (Alike : X → X → Type 0) where
   pub join : (xs ys : List X) → NoTwo Alike xs → NoTwo Alike ys → ((x y : X) → In xs x → In ys y → Alike x y → ⊥) → NoTwo Alike (xs ++ ys)

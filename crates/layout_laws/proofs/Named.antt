@@ -7,9 +7,10 @@ use Rattle.std.specs.Str.{bytes_eq}
 use Rattle.std.proofs.lemmas.Bool.{and_parts, and_from, eqb-true}
 use Rattle.std.specs.Cmp.Lexicographic.{same_text, other_text}
 use Rattle.words.specs.Members.{In}
+use Rattle.words.specs.Twice.{NoTwo}
 use Rattle.records.specs.Database.{Mux}
 use Rattle.records.specs.Grid.{Tile, origin_of}
-use Rattle.fabric.specs.Device.{TypeDb, Device, database_of}
+use Rattle.fabric.specs.Device.{TypeDb, Device, database_at}
 use Rattle.fabric.specs.Graph.{GraphMux, GraphArc, Graph}
 use Rattle.fabric.specs.GraphOf.{number_in, tile_muxes, muxes_of, IsGraph}
 use Rattle.fabric.specs.Image.{tile_named, mux_named, arc_named, arc_of_line}
@@ -19,7 +20,7 @@ use Rattle.fabric_laws.proofs.Numbered.{get_in, at_position, position_there}
 use Rattle.fabric_laws.proofs.Graphs.{some_same, arc_of, one_arc}
 use Rattle.fabric_laws.proofs.Standing.{arc_stands, mux_stands}
 use Rattle.repair.specs.Lines.{TileLine, line_of_arc}
-use Rattle.layout_laws.specs.Named.{NoTwo, NamesOnce}
+use Rattle.layout_laws.specs.Named.{NamesOnce}
 use Rattle.layout_laws.specs.MoreLines.{StandsForArc}
 use Rattle.layout_laws.proofs.Apart.{made, spread, one_number, numbers_apart}
 
@@ -43,7 +44,7 @@ module _ (device : Device) (g : Graph) (is : IsGraph device g) (once : NamesOnce
   found_type tile None h = tt
   found_type tile (Some t) h = once.sinks t (h t refl)
 
-  sinks_apart : (tile : Tile) → NoTwo (λ m n. m.sink ≡ n.sink) (database_of device.types tile).muxes
+  sinks_apart : (tile : Tile) → NoTwo (λ m n. m.sink ≡ n.sink) (database_at device.types tile).muxes
   sinks_apart tile = found_type tile (find (λ t. bytes_eq t.kind tile.kind) device.types) (λ t e. (find_from (λ u. bytes_eq u.kind tile.kind) device.types t e).0)
 
   found_mux : (tile : Tile) (m : Mux) (o : Option TypeDb) → ((t : TypeDb) → o ≡ Some t → In device.types t)
@@ -51,7 +52,7 @@ module _ (device : Device) (g : Graph) (is : IsGraph device g) (once : NamesOnce
   found_mux tile m None h i = absurd i
   found_mux tile m (Some t) h i = once.sources t m (h t refl) i
 
-  sources_apart : (tile : Tile) (m : Mux) → In (database_of device.types tile).muxes m → NoTwo (λ a b. a.source ≡ b.source) m.arcs
+  sources_apart : (tile : Tile) (m : Mux) → In (database_at device.types tile).muxes m → NoTwo (λ a b. a.source ≡ b.source) m.arcs
   sources_apart tile m i = found_mux tile m (find (λ t. bytes_eq t.kind tile.kind) device.types) (λ t e. (find_from (λ u. bytes_eq u.kind tile.kind) device.types t e).0) i
 
   -- a mux that is made of one of the database
@@ -67,11 +68,11 @@ module _ (device : Device) (g : Graph) (is : IsGraph device g) (once : NamesOnce
       (λ x y u v e f s. let p = mux_made number tile x u (number_in g.wires device.profile.rules tile x.sink) e in
       let q = mux_made number tile y v (number_in g.wires device.profile.rules tile y.sink) f in
       sym (ap (λ z. z.sink) p.1) ∙ (s.1 ∙ ap (λ z. z.sink) q.1))
-      (database_of device.types tile).muxes (sinks_apart tile)
+      (database_at device.types tile).muxes (sinks_apart tile)
 
   tile_is : (number : ℕ) (tile : Tile) (m : GraphMux) → In (tile_muxes device g.wires number tile) m → m.tile ≡ number
   tile_is number tile m i =
-      let r = in_filter_map_from (λ mux. option_map (λ sink. let built : GraphMux = record { tile = number; origin = origin_of tile; sink = sink; mux = mux } in built) (number_in g.wires device.profile.rules tile mux.sink)) (database_of device.types tile).muxes m i in
+      let r = in_filter_map_from (λ mux. option_map (λ sink. let built : GraphMux = record { tile = number; origin = origin_of tile; sink = sink; mux = mux } in built) (number_in g.wires device.profile.rules tile mux.sink)) (database_at device.types tile).muxes m i in
       (mux_made number tile r.0 m (number_in g.wires device.profile.rules tile r.0.sink) r.2).0
 
   muxes_apart : NoTwo SameMux (muxes_of device g.wires)

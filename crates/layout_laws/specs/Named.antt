@@ -1,13 +1,9 @@
 -- What a grid and databases as they are read always meet: nothing is named twice.
-use Rattle.std.specs.Prelude.{◌≡◌, List, [], ◌∷◌}
+use Rattle.std.specs.Prelude.{◌≡◌}
 use Rattle.words.specs.Members.{In}
+use Rattle.words.specs.Twice.{NoTwo}
 use Rattle.records.specs.Database.{Mux}
 use Rattle.fabric.specs.Device.{TypeDb, Device}
-
--- no two elements of a list are alike
-abbrev pub NoTwo : {X : Type 0} → (X → X → Type 0) → List X → Type 0
-NoTwo Alike [] = Unit {0}
-NoTwo {X} Alike (x ∷ xs) = ((y : X) → In xs y → Alike x y → ⊥) × NoTwo Alike xs
 
 -- no two tiles have one name, no two muxes of a tile type one sink, and no two arcs of a mux one source
 pub record NamesOnce (device : Device) : Type 0 where

@@ -1,19 +1,11 @@
--- The wires below a wire, as a list. What is below w along the links of a list is what is below w along all but
--- the first one, and where that holds the first one's source, what is below its sink along all but the first.
+-- The list of the wires below a wire has just these.
 use Rattle.std.proofs.Common.{◌≡◌, ℕ, Bool, true, false, List, [], ◌∷◌, ◌++◌, ◌⊎◌, inl, inr, refl, sym, ap, subst, arith, eqb, ◌||◌}
 use Rattle.std.proofs.lemmas.Bool.Decides.{nat_tests}
 use Rattle.words.specs.Members.{In}
 use Rattle.links.specs.Links.{Link, Routing, Reaches, here, onto, Below}
 use Rattle.links.proofs.Members.{in_left, in_right, in_either, is_in, same_number}
 use Rattle.links.proofs.Walks.{reaches_on, reaches_by}
-
-abbrev pub has : List ℕ → ℕ → Bool
-has [] x = false
-has (y ∷ ys) x = eqb y x || has ys x
-
-abbrev pub below : List Link → ℕ → List ℕ
-below [] w = w ∷ []
-below (l ∷ ls) w = let b = below ls w in elim (has b l.source) [ true ↦ b ++ below ls l.sink | false ↦ b ]
+use Rattle.links.specs.Below.{has, below}
 
 -- a link of a list leads from a wire to another
 abbrev Leads : List Link → ℕ → ℕ → Type 0

@@ -1,11 +1,11 @@
 -- The design of a number of blocks, on a device that they make. (Our own.)
 use Rattle.std.specs.Prelude.{ℕ, [], ◌∷◌, flat_map, codes}
+use Rattle.words.specs.Ordered.{in_order}
 use Rattle.records.specs.Grid.{Grid}
 use Rattle.records.specs.Config.{Config}
 use Rattle.records.specs.Side.{Side}
 use Rattle.fabric.specs.Device.{Device}
 use Rattle.json_forms.specs.Grid.{grid_with}
-use Rattle.config_grammar.specs.Ordered.{in_order}
 use Rattle.design_files.specs.Designs.{Design}
 use Rattle.mini_b.specs.MiniB.{sio, slc, mini_profile}
 use Rattle.made_designs.specs.Blocks.{numbers_below, block_tiles, block_texts}

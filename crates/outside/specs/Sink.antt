@@ -1,6 +1,7 @@
 -- What a sink of bytes answers, and what a writing of all bytes leaves in it. Our own.
 use Rattle.std.specs.Prelude.{◌≡◌, ℕ, ◌<◌, ◌≤◌, List, [], ◌++◌, take, Result, Ok, Err}
 use Rattle.words.specs.Rose.{Rose}
+use Rattle.words.specs.Appended.{AppendsFront}
 use Rattle.outside.specs.declared.TakeAnswer.{TakeAnswer}
 use Rattle.outside.specs.declared.TakeAnswer.TheVariants.{Took, Failed, Memory}
 use Rattle.outside.specs.declared.whole.SinkError.{SinkError}
@@ -29,13 +30,6 @@ abbrev pub taken_of : TakeAnswer → List ℕ → List ℕ
 taken_of (Took n) piece = take n piece
 taken_of Failed piece = []
 taken_of Memory piece = []
-
--- some of the bytes, from the first on, were appended
-pub record AppendsFront (old new bytes : List ℕ) : Type 0 where
-  pub front : List ℕ
-  pub rest : List ℕ
-  pub appended : new ≡ old ++ front
-  pub whole : bytes ≡ front ++ rest
 
 -- all bytes were appended, or after an error some of them from the first on
 abbrev pub Appends : Result (Unit {0}) SinkError → List ℕ → List ℕ → List ℕ → Type 0

@@ -1,5 +1,5 @@
 pub mod Leading
-pub mod Decided
+pub mod UpTo
 pub mod Sorted
 pub mod Search
 pub mod Numbered

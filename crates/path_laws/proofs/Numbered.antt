@@ -4,9 +4,9 @@ use Rattle.std.proofs.lemmas.Bool.{cases_lt}
 use Rattle.std.specs.List.{flat_map}
 use Rattle.std.specs.Cmp.{nat_cmp_total}
 use Rattle.words.specs.Members.{In}
+use Rattle.words.proofs.Decided.{Decided, both, decided_by}
 use Rattle.links.proofs.Members.{in_flat_map, of_flat_map, is_in, same_number}
 use Rattle.paths.specs.Wiring.{Wiring, Rules, IsArcOf, IsWiring, IsRules, IsTree, roads_of}
-use Rattle.path_laws.proofs.Decided.{Decided, both, decided_by}
 use Rattle.path_laws.proofs.Search.{IsFinite}
 
 -- the numbers below n

@@ -8,16 +8,18 @@ use Rattle.std.specs.Ordering.{nat_cmp, ordering_then, ordering_reverse, on, the
 use Rattle.std.specs.Cmp.{IsTotalOrder, nat_cmp_total, nat_cmp_is, on_total, then_total}
 use Rattle.std.specs.Cmp.Lexicographic.{slice_cmp, lists_total}
 use Rattle.words.specs.Members.{In}
+use Rattle.words.proofs.Decided.{Decided, both, never, decided_by, chosen}
 use Rattle.links.specs.Links.{Link, Reaches, here, onto}
 use Rattle.links.proofs.Members.{in_left, in_right, in_either, in_map, of_map, in_flat_map, of_flat_map, is_in, same_number}
-use Rattle.links.proofs.Below.{below, below_sound, below_complete}
+use Rattle.links.proofs.Below.{below_sound, below_complete}
 use Rattle.links.proofs.Walks.{reaches_by}
+use Rattle.links.specs.Below.{below}
 use Rattle.paths.specs.Roads.{Roads, IsBelow}
 use Rattle.paths.specs.Paths.{LeadsOn, IsPath, weight_of, IsThePath}
 use Rattle.paths.specs.Cuts.{IsLeastCut, IsInRim, IsBlockedBy}
-use Rattle.path_laws.proofs.Decided.{Decided, both, never, decided_by, chosen, lists_up_to, in_lists}
 use Rattle.path_laws.proofs.Sorted.{Ranked, ranked, increases, one_list}
 use Rattle.path_laws.proofs.Leading.{IsClosed, path_stays, path_link, path_arc, path_taken}
+use Rattle.path_laws.proofs.UpTo.{lists_up_to, in_lists}
 
 -- the least element of a list
 pub record Least {X : Type 0} (cmp : X → X → Ordering) (xs : List X) : Type 0 where

@@ -5,9 +5,9 @@ use Rattle.std.proofs.lemmas.Bool.{cases_lt, cases_eq}
 use Rattle.words.specs.Members.{In}
 
 -- each number is below all those behind it
-abbrev pub IsRising : List ℕ → Type 0
-IsRising [] = Unit {0}
-IsRising (x ∷ xs) = ((y : ℕ) → In xs y → x < y) × IsRising xs
+abbrev pub IsRisingList : List ℕ → Type 0
+IsRisingList [] = Unit {0}
+IsRisingList (x ∷ xs) = ((y : ℕ) → In xs y → x < y) × IsRisingList xs
 
 tail_rises : (x : ℕ) (xs : List ℕ) → IsStrictlyIncreasing (x ∷ xs) → IsStrictlyIncreasing xs
 tail_rises x xs h k l =
@@ -15,17 +15,17 @@ tail_rises x xs h k l =
     let e : suc k + 1 ≡ suc (k + 1) = omega arith in
     subst (λ n. get_or xs k 0 < get_or (x ∷ xs) n 0) e r
 
-pub rises : (xs : List ℕ) → IsStrictlyIncreasing xs → IsRising xs
+pub rises : (xs : List ℕ) → IsStrictlyIncreasing xs → IsRisingList xs
 rises [] h = tt
 rises (x ∷ xs) h = (go xs h (rises xs (tail_rises x xs h)), rises xs (tail_rises x xs h))
   where
-    go : (ys : List ℕ) → IsStrictlyIncreasing (x ∷ ys) → IsRising ys → (y : ℕ) → In ys y → x < y
+    go : (ys : List ℕ) → IsStrictlyIncreasing (x ∷ ys) → IsRisingList ys → (y : ℕ) → In ys y → x < y
     go [] h r y i = absurd i
     go (z ∷ zs) h r y i =
         let first : x < z = h 0 (omega arith) in
         elim i [ inl e ↦ omega arith | inr j ↦ (let l = r.0 y j in omega arith) ]
 
-pub increases : (xs : List ℕ) → IsRising xs → IsStrictlyIncreasing xs
+pub increases : (xs : List ℕ) → IsRisingList xs → IsStrictlyIncreasing xs
 increases [] r k l = absurd (omega arith)
 increases (x ∷ []) r k l = absurd (omega arith)
 increases (x ∷ y ∷ ys) r zero l = r.0 y (inl refl)
@@ -35,7 +35,7 @@ increases (x ∷ y ∷ ys) r (suc k) l =
     subst (λ n. get_or (y ∷ ys) k 0 < get_or (x ∷ y ∷ ys) n 0) (sym e) i
 
 -- a set has one rising list
-pub determined : (xs ys : List ℕ) → IsRising xs → IsRising ys → ((x : ℕ) → In xs x → In ys x) → ((x : ℕ) → In ys x → In xs x) → xs ≡ ys
+pub determined : (xs ys : List ℕ) → IsRisingList xs → IsRisingList ys → ((x : ℕ) → In xs x → In ys x) → ((x : ℕ) → In ys x → In xs x) → xs ≡ ys
 determined [] [] p q f g = refl
 determined [] (y ∷ ys) p q f g = absurd (g y (inl refl))
 determined (x ∷ xs) [] p q f g = absurd (f x (inl refl))
@@ -59,10 +59,10 @@ one_list xs ys p q same = determined xs ys (rises xs p) (rises ys q) (λ x i. (s
 -- a rising list with one more number
 pub record Raised (x : ℕ) (xs : List ℕ) : Type 0 where
   pub list : List ℕ
-  pub rising : IsRising list
+  pub rising : IsRisingList list
   pub members : (y : ℕ) → In list y ↔ ((x ≡ y) ⊎ In xs y)
 
-raised : (x : ℕ) (xs : List ℕ) → IsRising xs → Raised x xs
+raised : (x : ℕ) (xs : List ℕ) → IsRisingList xs → Raised x xs
 raised x [] r = record { list = x ∷ []; rising = ((λ y i. absurd i), tt); members = λ y. ((λ i. i), (λ i. i)) }
 raised x (z ∷ zs) r = elim (cases_eq x z) as (λ _. Raised x (z ∷ zs)) [
   | inl e ↦ record { list = z ∷ zs; rising = r; members = λ y. ((λ i. inr i), (λ i. elim i [ inl d ↦ inl (sym e ∙ d) | inr j ↦ j ])) }
@@ -86,7 +86,7 @@ raised x (z ∷ zs) r = elim (cases_eq x z) as (λ _. Raised x (z ∷ zs)) [
 -- the rising list of a set
 pub record Ranked (xs : List ℕ) : Type 0 where
   pub list : List ℕ
-  pub rising : IsRising list
+  pub rising : IsRisingList list
   pub members : (y : ℕ) → In list y ↔ In xs y
 
 pub ranked : (xs : List ℕ) → Ranked xs

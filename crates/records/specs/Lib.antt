@@ -4,3 +4,4 @@ pub mod Grid
 pub mod Profile
 pub mod Side
 pub mod Config
+pub mod Ripping

@@ -1,3 +1,3 @@
 //! The files that the program reads, as records of lists: database, grid, profile, side file and
-//! configuration. Contracts speak of these, however a program keeps them.
+//! configuration; and every limit. Contracts speak of these, however a program keeps them.
 #![tactic(auto)]

@@ -9,8 +9,9 @@ use Rattle.records.specs.Side.{Domain, D0, D1, D2}
 use Rattle.links.specs.Links.{Routing, here, onto, Counting, Below, Upstream}
 use Rattle.links.proofs.Walks.{reaches_on}
 use Rattle.links.proofs.Members.{in_left, in_right, in_map}
-use Rattle.links.proofs.Below.{below, below_complete, has, has_in, in_has}
+use Rattle.links.proofs.Below.{below_complete, has_in, in_has}
 use Rattle.links.proofs.Feeds.{one_feed}
+use Rattle.links.specs.Below.{below, has}
 use Rattle.fabric.specs.Graph.{Graph}
 use Rattle.fabric.specs.Links.{routing_of}
 use Rattle.fabric.specs.MuxBits.{mux_bits, is_mux_bit}

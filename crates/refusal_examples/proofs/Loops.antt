@@ -4,14 +4,15 @@ use Rattle.std.specs.Prelude.{slice_get}
 use Rattle.std.specs.List.{list_all, list_any}
 use Rattle.words.specs.Members.{In}
 use Rattle.links.specs.Links.{Reaches, here, onto}
-use Rattle.links.proofs.Below.{below, below_complete, has, has_in, in_has}
+use Rattle.links.proofs.Below.{below_complete, has_in, in_has}
+use Rattle.links.specs.Below.{below, has}
 use Rattle.fabric.specs.Wires.{Wire}
 use Rattle.fabric.specs.Graph.{Graph}
 use Rattle.fabric_laws.proofs.Members.{is_false}
 use Rattle.fabric_examples.proofs.Tests.{is_feed, feed}
 use Rattle.circuit.specs.Parts.{PartRef, Kind, OfTable, Source, sources}
 use Rattle.circuit.specs.Pins.{PinRef, Pin, bit_pins, pins}
-use Rattle.circuit.specs.Circuits.{Circuit, Reads}
+use Rattle.circuit.specs.Circuits.{Circuit, IsReadBy}
 use Rattle.circuit_laws.proofs.Parts.{table_bit}
 use Rattle.circuit_laws.proofs.Sound.{at_pin}
 use Rattle.answers.specs.Refusals.{UnnamedSource}
@@ -74,18 +75,18 @@ module _ (c : Circuit) where
   abbrev pub reads_table : Source → Bool
   reads_table s = is_table s.kind && list_any (λ p. list_any (λ a. is_table a.kind && feeds c a p.wire) (sources c.cells)) (bit_pins s)
 
-  read_by : (b s : Source) → is_table b.kind ≡ true → Reads c b s → reads_table s ≡ true
+  read_by : (b s : Source) → is_table b.kind ≡ true → IsReadBy c b s → reads_table s ≡ true
   read_by b s kind rd =
       and_both (is_table s.kind) (list_any (λ p. list_any (λ a. is_table a.kind && feeds c a p.wire) (sources c.cells)) (bit_pins s)) (ap is_table rd.is_table)
       (any_at (λ (p : Pin). list_any (λ a. is_table a.kind && feeds c a p.wire) (sources c.cells)) (bit_pins s) rd.pin (table_bit s rd.table rd.is_table rd.pin rd.takes)
       (any_at (λ (a : Source). is_table a.kind && feeds c a rd.pin.wire) (sources c.cells) b rd.connects.source (and_both (is_table b.kind) (feeds c b rd.pin.wire) kind (is_feeds c b rd.pin.wire (at_pin c b rd.pin rd.connects)))))
 
-  table_at : (u n : Source) → Reads c u n → {s : Source} → Reaches (Reads c) n s → is_table s.kind ≡ true
+  table_at : (u n : Source) → IsReadBy c u n → {s : Source} → Reaches (IsReadBy c) n s → is_table s.kind ≡ true
   table_at u n rd here = ap is_table rd.is_table
   table_at u n rd (onto q s) = ap is_table s.is_table
 
   -- a part on a loop reads a table
-  loop_reads : (u n : Source) → Reads c u n → Reaches (Reads c) n u → {s : Source} → Reaches (Reads c) n s → reads_table s ≡ true
+  loop_reads : (u n : Source) → IsReadBy c u n → Reaches (IsReadBy c) n u → {s : Source} → Reaches (IsReadBy c) n s → reads_table s ≡ true
   loop_reads u n rd back here = read_by u n (table_at u n rd back) rd
   loop_reads u n rd back (onto {b} q last) = read_by b _ (table_at u n rd q) last
 

@@ -14,7 +14,7 @@ use Rattle.circuit.specs.Triples.{PartTriple, triple_of}
 use Rattle.circuit.specs.Circuits.{Connects}
 use Rattle.circuit.specs.Domains.{HasDomain}
 use Rattle.circuit.specs.Worlds.{address, word_bit, table_output}
-use Rattle.circuit.specs.Tables.{Assigned, SameBut}
+use Rattle.circuit.specs.Tables.{Assigned, SameBitsBut}
 use Rattle.circuit.specs.Triplicated.{ReadPart}
 use Rattle.circuit_laws.proofs.Refs.{part_same}
 use Rattle.circuit_laws.proofs.Sound.{FeedsFrom, to_pin, has_domain, domain_is}
@@ -143,7 +143,7 @@ record Failing (s : Source) (t : TableCell) (n : ℕ) : Type 0 where
   before : Pin → Bool
   after : Pin → Bool
   assigned : Assigned unmasked_circuit bits s t before
-  same : SameBut unmasked_circuit other s t before after
+  same : SameBitsBut unmasked_circuit other s t before after
   open_pins : OpenAreZero unmasked_circuit s t after
   at : address (map after (table_pins s.part t)) ≡ n
   differs : table_output s.part t before ≢ table_output s.part t after

@@ -3,8 +3,9 @@ use Rattle.std.proofs.Common.{◌≡◌, ℕ, Bool, true, false, not, List, ◌+
 use Rattle.std.specs.List.{list_all, flat_map}
 use Rattle.words.specs.Members.{In}
 use Rattle.links.specs.Links.{Fed}
-use Rattle.links.proofs.Below.{below, below_complete, has, has_in}
+use Rattle.links.proofs.Below.{below_complete, has_in}
 use Rattle.links.proofs.Members.{in_left, in_right, in_map, in_flat_map}
+use Rattle.links.specs.Below.{below, has}
 use Rattle.fabric_laws.proofs.Members.{is_false}
 use Rattle.circuit.specs.Parts.{PartRef, Kind, OfRegister, Source, sources, output_pads}
 use Rattle.circuit.specs.Pins.{PinRef, Pin, bit_pins, pad_pin, pins}

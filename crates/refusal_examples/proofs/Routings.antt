@@ -3,7 +3,8 @@ use Rattle.std.proofs.Common.{◌≡◌, ◌≢◌, ℕ, Bool, true, false, not,
 use Rattle.std.specs.List.{list_all, list_any}
 use Rattle.std.specs.Ordering.{nat_cmp}
 use Rattle.links.specs.Links.{Link, Routing, Counting}
-use Rattle.links.proofs.Below.{has, has_in}
+use Rattle.links.proofs.Below.{has_in}
+use Rattle.links.specs.Below.{has}
 use Rattle.design_checks.specs.Checks.{IsLeast}
 use Rattle.design_checks.specs.RoutingChecks.{IsContested, Asserts, AssertsBeside, AreTwoLeast, two}
 use Rattle.circuit_examples.proofs.Tests.{and_both, is_number, number_is, any_at, clash, implies}

@@ -5,8 +5,8 @@ use Rattle.std.specs.List.{list_all}
 use Rattle.std.specs.Ordering.{nat_cmp}
 use Rattle.std.proofs.lemmas.Bool.{false≢true}
 use Rattle.links.specs.Links.{Routing, Counting}
-use Rattle.links.proofs.Below.{has}
 use Rattle.records.specs.Config.{Config}
+use Rattle.links.specs.Below.{has}
 use Rattle.fabric.specs.Graph.{Graph}
 use Rattle.fabric.specs.Image.{image_of}
 use Rattle.fabric.specs.Links.{routing_of}

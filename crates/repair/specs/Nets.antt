@@ -13,6 +13,7 @@ use Rattle.fabric.specs.Graph.{Graph}
 use Rattle.fabric.specs.GraphOf.{number_in}
 use Rattle.fabric.specs.Image.{tile_named}
 use Rattle.patterns.specs.Bits.{DeviceBit}
+use Rattle.records.specs.Ripping.{Rip, RipUnsafe, RipAll}
 use Rattle.circuit.specs.Cells.{Role, InputPad, OutputPad, ClockPad, Cells}
 use Rattle.upset.specs.Configured.{Configured}
 use Rattle.upset.specs.Effect.{IsDisturbed}
@@ -49,11 +50,6 @@ is_clock ClockPad = true
 -- the clock nets: the outputs of clock pads
 abbrev pub clock_nets : Cells → List ℕ
 clock_nets cells = map (λ p. p.wire) (filter (λ p. is_clock p.role) cells.pads)
-
--- which nets are ripped: those that bad bits reach, or all
-pub data Rip : Type 0 where
-  RipUnsafe : Rip
-  RipAll : Rip
 
 -- a net feeds a wire that a bad bit disturbs
 pub record IsReached (k : Configured) (net : ℕ) : Type 0 where

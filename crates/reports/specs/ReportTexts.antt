@@ -2,15 +2,11 @@
 use Rattle.std.specs.Prelude.{ℕ, ◌+◌, List, [], ◌∷◌, ◌++◌, length, codes}
 use Rattle.std.specs.List.{flat_map}
 use Rattle.std.specs.Fmt.{decimal}
+use Rattle.texts.specs.Printing.{line_of}
 use Rattle.records.specs.Side.{Domain, D0, D1, D2}
 use Rattle.fabric.specs.Wires.{Wire, wire_text}
 use Rattle.fabric.specs.MuxBits.{bit_text}
-use Rattle.answers.specs.Texts.{spaced, line_feed}
 use Rattle.reports.specs.Reports.{Place, AtWire, InCell, BadPlace, LogLine, Blocked, Moved, Complete, EndWord, EndRounds, EndPad, EndSite, RunWord, RunHardened, RunNoRoute, RunStanding, RunReport, Report, Checked, Safe, Unsafe, Standing, Hardened, NoRoute, CutFile, Ran}
-
--- a line of a first word and others
-abbrev pub line_of : List ℕ → List (List ℕ) → List ℕ
-line_of word words = word ++ spaced words ++ line_feed
 
 abbrev pub counted : List ℕ → ℕ → List ℕ
 counted word n = line_of word (decimal n ∷ [])

@@ -6,7 +6,7 @@ use Rattle.repair.specs.Layouts.{configured}
 use Rattle.attempts.specs.Attempts.{AttemptComplete, EndRounds, Routed, blocked_event, no_route, enough, comes_first, completes, IsAnswer, Ended, ended}
 use Rattle.mini_b.specs.MiniB.{mini_b}
 use Rattle.mini_b.specs.Corridor.{corridor}
-use Rattle.plain_routes.proofs.Rules.{IsToldBy}
+use Rattle.route_laws.proofs.Rules.{IsToldBy}
 use Rattle.route_examples.specs.Corridors.{with_corridor, bare, cut, first_seven, eighth, last_seven, table_of, pad_of, to_pin}
 use Rattle.route_examples.specs.Starting.{corridor_job, corridor_start}
 use Rattle.route_examples.proofs.Conditions.{g, told_by}

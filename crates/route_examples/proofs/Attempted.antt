@@ -10,8 +10,8 @@ use Rattle.repair.specs.Layouts.{Layout, configured, turn_over, with_path}
 use Rattle.repair.specs.Routes.{IsTheRoute, IsBlocked}
 use Rattle.attempts.specs.Turns.{Cut, Outcome, Blocked, ComesOut, behind}
 use Rattle.attempts.specs.Wires.{source_named, pin_wire}
-use Rattle.plain_routes.specs.PlainPaths.{first_paths, weight_by}
-use Rattle.plain_routes.proofs.Rules.{IsToldBy}
+use Rattle.route_laws.specs.PlainPaths.{first_paths, weight_by}
+use Rattle.route_laws.proofs.Rules.{IsToldBy}
 use Rattle.route_examples.proofs.Conditions.{the_way}
 
 -- A connection's part and the wire of its pin, as they are found in a layout.

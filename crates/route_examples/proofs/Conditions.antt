@@ -1,7 +1,7 @@
 -- The texts of the corridor meet the conditions of the laws.
 use Rattle.std.proofs.Common.{◌≡◌, ℕ, true, List, [], ◌∷◌, inl, refl, sym, subst, arith}
 use Rattle.std.specs.List.{list_all}
-use Rattle.links.proofs.Below.{has, in_has}
+use Rattle.links.proofs.Below.{in_has}
 use Rattle.words.specs.Members.{In}
 use Rattle.fabric.specs.Device.{Device}
 use Rattle.fabric.specs.Graph.{GraphArc, Graph}
@@ -10,6 +10,7 @@ use Rattle.fabric_laws.proofs.Graphs.{has_graph}
 use Rattle.fabric_laws.proofs.Members.{all_from}
 use Rattle.fabric_examples.proofs.Tests.{drives_once, clean_once}
 use Rattle.records.specs.Config.{Config}
+use Rattle.links.specs.Below.{has}
 use Rattle.circuit.specs.Parts.{sources}
 use Rattle.upset.specs.Configured.{Configured}
 use Rattle.upset_laws.specs.PlainUpset.{OutputsListed}
@@ -17,9 +18,9 @@ use Rattle.repair.specs.Layouts.{configured}
 use Rattle.repair.specs.Turns.{Turn, routing}
 use Rattle.repair.specs.Routes.{IsTheRoute}
 use Rattle.mini_b.specs.MiniB.{mini_b}
-use Rattle.plain_routes.specs.PlainPaths.{first_paths, weight_by}
-use Rattle.plain_routes.proofs.Rules.{IsToldBy}
-use Rattle.plain_routes.proofs.Paths.{route_law}
+use Rattle.route_laws.specs.PlainPaths.{first_paths, weight_by}
+use Rattle.route_laws.proofs.Rules.{IsToldBy}
+use Rattle.route_laws.proofs.Paths.{route_law}
 use Rattle.route_examples.specs.Corridors.{with_corridor}
 
 abbrev pub g : Graph

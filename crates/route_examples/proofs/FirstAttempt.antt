@@ -9,9 +9,9 @@ use Rattle.repair.specs.Turns.{Turn}
 use Rattle.attempts.specs.Turns.{Outcome, Blocked, ComesOut, behind}
 use Rattle.mini.specs.ToggleCells.{wire_at}
 use Rattle.mini_b.specs.MiniB.{mini_b}
-use Rattle.plain_routes.specs.PlainCuts.{is_blocked}
-use Rattle.plain_routes.proofs.Rules.{IsToldBy}
-use Rattle.plain_routes.proofs.Cuts.{blocked_law}
+use Rattle.route_laws.specs.PlainCuts.{is_blocked}
+use Rattle.route_laws.proofs.Rules.{IsToldBy}
+use Rattle.route_laws.proofs.Cuts.{blocked_law}
 use Rattle.route_examples.specs.Corridors.{read, bare, table_of, pad_of, to_pin, pad_net, table_net, down, over_u, after, inside, rim, cut, first_seven, eighth, last_seven, fifteen}
 use Rattle.route_examples.proofs.Conditions.{g, told_by}
 use Rattle.route_examples.proofs.Attempted.{IsFound, IsComputed, routed_then, stops}

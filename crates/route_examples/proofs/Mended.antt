@@ -11,7 +11,7 @@ use Rattle.attempts.specs.Turns.{Outcome, Complete, ComesOut, behind}
 use Rattle.mini.specs.MiniA.{mini_a}
 use Rattle.mini.specs.Toggle.{toggle}
 use Rattle.mini.specs.ToggleCells.{wire_at}
-use Rattle.plain_routes.proofs.Rules.{IsToldBy}
+use Rattle.route_laws.proofs.Rules.{IsToldBy}
 use Rattle.route_examples.specs.Corridors.{table_of, pad_of}
 use Rattle.route_examples.specs.Crossed.{with_cells, crossed_read, rest_of_crossed, reads, eight, crossed_job, crossed_start, register_net, up, over, on_to, up_from_a2, over_h0, off_h0, uncrossed}
 use Rattle.route_examples.proofs.Attempted.{IsFound, IsComputed, routed_then}

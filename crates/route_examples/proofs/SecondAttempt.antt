@@ -8,7 +8,7 @@ use Rattle.attempts.specs.Turns.{Outcome, Complete, ComesOut, behind}
 use Rattle.mini.specs.ToggleCells.{wire_at}
 use Rattle.mini_b.specs.MiniB.{mini_b}
 use Rattle.mini_b.specs.Corridor.{corridor}
-use Rattle.plain_routes.proofs.Rules.{IsToldBy}
+use Rattle.route_laws.proofs.Rules.{IsToldBy}
 use Rattle.route_examples.specs.Corridors.{with_corridor, read, bare, table_of, pad_of, to_pin, pad_net, table_net, down, v0_over_u, u0_over_v, to_pad_over_u, to_pin_over_v, up_to_pad, again, rim, first_seven, eighth, last_seven}
 use Rattle.route_examples.proofs.Conditions.{g, told_by}
 use Rattle.route_examples.proofs.Attempted.{IsFound, IsComputed, routed_then}

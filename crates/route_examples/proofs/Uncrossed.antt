@@ -9,16 +9,16 @@ use Rattle.records.specs.Config.{Config}
 use Rattle.repair.specs.Layouts.{configured, turn_over}
 use Rattle.repair.specs.Routes.{IsTheRoute, IsRoute}
 use Rattle.repair.specs.Turns.{Turn, routing}
-use Rattle.attempts.specs.Starts.{IsStart}
+use Rattle.attempts.specs.Starts.{IsFirstState}
 use Rattle.upset_laws.specs.PlainUpset.{OutputsListed}
 use Rattle.mini.specs.MiniA.{mini_a}
 use Rattle.mini.specs.Toggle.{crossed}
 use Rattle.mini.specs.ToggleCells.{wire_at, toggle_cells}
-use Rattle.plain_routes.specs.PlainPaths.{first_paths, paths_within, weight_by}
-use Rattle.plain_routes.specs.PlainStarts.{rest_of, ripped_connections, is_order}
-use Rattle.plain_routes.proofs.Rules.{IsToldBy}
-use Rattle.plain_routes.proofs.Paths.{paths_law}
-use Rattle.plain_routes.proofs.Starts.{start_law}
+use Rattle.route_laws.specs.PlainPaths.{first_paths, paths_within, weight_by}
+use Rattle.route_laws.specs.PlainStarts.{rest_of, ripped_connections, is_order}
+use Rattle.route_laws.proofs.Rules.{IsToldBy}
+use Rattle.route_laws.proofs.Paths.{paths_law}
+use Rattle.route_laws.proofs.Starts.{start_law}
 use Rattle.route_examples.specs.Crossed.{with_cells, crossed_read, rest_of_crossed, eight, crossed_job, crossed_start, net_of_a0, up, over, after_up}
 use Rattle.route_examples.proofs.Conditions.{outputs_listed, the_way}
 
@@ -40,7 +40,7 @@ rest = refl
 ordered : is_order (toggle_cells g) (ripped_connections (crossed_job g)) eight ≡ true
 ordered = refl
 
-pub started : IsStart (crossed_job g) (crossed_start g)
+pub started : IsFirstState (crossed_job g) (crossed_start g)
 started = start_law (crossed_job g) told (crossed_start g) refl rest refl refl ordered refl refl refl
 
 -- the first connection

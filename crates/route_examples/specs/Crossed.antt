@@ -2,6 +2,7 @@
 use Rattle.std.specs.Prelude.{ℕ, ◌+◌, take, false, List, [], ◌∷◌, codes}
 use Rattle.records.specs.Config.{Config}
 use Rattle.records.specs.Side.{Domain, D0}
+use Rattle.records.specs.Ripping.{RipUnsafe}
 use Rattle.fabric.specs.Graph.{GraphArc, Graph}
 use Rattle.circuit.specs.Parts.{PartRef, Register, OfRegister, Source}
 use Rattle.circuit.specs.Cells.{InputWire, InputZero, InputOne}
@@ -9,7 +10,6 @@ use Rattle.circuit.specs.Circuits.{Circuit, Connection}
 use Rattle.upset.specs.Configured.{circuit_of}
 use Rattle.repair.specs.Layouts.{Layout, configured, with_path, turn_over}
 use Rattle.repair.specs.Turns.{Turn}
-use Rattle.repair.specs.Nets.{RipUnsafe}
 use Rattle.attempts.specs.Jobs.{Job, State}
 use Rattle.mini.specs.MiniA.{mini_a}
 use Rattle.mini.specs.Toggle.{line, slice_text, output_text, clock_text, crossed, toggle_side}

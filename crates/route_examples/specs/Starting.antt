@@ -1,9 +1,9 @@
 -- Where repair of the corridor starts.
 use Rattle.std.specs.Prelude.{ℕ, List, [], ◌∷◌, ◌++◌, codes}
+use Rattle.records.specs.Ripping.{RipAll}
 use Rattle.fabric.specs.Graph.{Graph}
 use Rattle.circuit.specs.Cells.{Cells}
 use Rattle.circuit.specs.Circuits.{Connection}
-use Rattle.repair.specs.Nets.{RipAll}
 use Rattle.attempts.specs.Jobs.{Job, State}
 use Rattle.attempts.specs.Wires.{net_wire, pin_wire}
 use Rattle.mini.specs.Spoken.{text_of}

@@ -2,14 +2,14 @@
 #![tactic(auto)]
 
 ghost use Rattle.attempts.specs.Attempts.{AttemptComplete, EndRounds, Ended, IsAnswer, Routed, blocked_event, no_route};
-ghost use Rattle.attempts.specs.Starts.{IsStart};
+ghost use Rattle.attempts.specs.Starts.{IsFirstState};
 ghost use Rattle.attempts.specs.Turns.{Blocked, Complete, ComesOut};
 ghost use Rattle.cells.specs.CellsOf.{cells_of};
 ghost use Rattle.circuit.specs.Triplicated.{IsTriplicated};
 ghost use Rattle.circuit.specs.WellFormed.{IsWellFormed};
 ghost use Rattle.fabric.specs.Image.{image_of};
 ghost use Rattle.fabric.specs.MuxBits.{bit_cmp, mux_bits};
-ghost use Rattle.fabric_laws.specs.Insertion.{in_order};
+ghost use Rattle.fabric_laws.specs.Insertion.{sorted_once};
 ghost use Rattle.fabric_laws.specs.PlainGraph.{graph_of};
 ghost use Rattle.links.specs.Links.{IsClean};
 ghost use Rattle.mini.specs.MiniA.{mini_a};
@@ -35,7 +35,7 @@ pub fn corridor_is_safe()
     ensures cells { let g = graph_of mini_b in cells_of g mini_b.profile (image_of g corridor) corridor_side ≡ Ok (corridor_cells g) }
     ensures clean { let g = graph_of mini_b in IsClean (routing (configured (with_corridor g corridor))) }
     ensures safe { let g = graph_of mini_b in IsSafe (configured (with_corridor g corridor)) }
-    ensures bits { length (in_order bit_cmp (mux_bits (graph_of mini_b))) ≡ 196 }
+    ensures bits { length (sorted_once bit_cmp (mux_bits (graph_of mini_b))) ≡ 196 }
 {}
 
 /// It meets all that masking asks for.
@@ -46,7 +46,7 @@ pub fn corridor_is_triplicated()
 
 /// Repair of the whole corridor starts from its text without arc lines, with these fifteen connections in this order.
 pub fn corridor_starts()
-    ensures start { let g = graph_of mini_b in (rounds : ℕ) → IsStart (corridor_job g rounds) (corridor_start g) }
+    ensures start { let g = graph_of mini_b in (rounds : ℕ) → IsFirstState (corridor_job g rounds) (corridor_start g) }
     ensures order { let g = graph_of mini_b in map (connection_text g (bare g).cells) (corridor_start g).order ≡ fifteen_texts }
 {}
 
@@ -87,7 +87,7 @@ pub fn second_attempt_is_complete()
 /// Repair of the crossed toggle rips the two nets that its bad bit reaches, and no other: from this text it starts, with
 /// these eight connections in this order.
 pub fn crossed_starts()
-    ensures start { let g = graph_of mini_a in IsStart (crossed_job g) (crossed_start g) }
+    ensures start { let g = graph_of mini_a in IsFirstState (crossed_job g) (crossed_start g) }
     ensures order { let g = graph_of mini_a in map (connection_text g (toggle_cells g)) (crossed_start g).order ≡ eight_texts }
 {}
 

@@ -1,3 +1,10 @@
 pub mod Same
 pub mod Usable
 pub mod Routes
+pub mod Tests
+pub mod Parts
+pub mod Rules
+pub mod UsableTests
+pub mod Cuts
+pub mod Paths
+pub mod Starts

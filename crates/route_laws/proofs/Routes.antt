@@ -2,16 +2,17 @@
 use Rattle.std.proofs.Common.{◌≡◌, ℕ, ◌↔◌, inl, inr, List, ◌∷◌, ◌++◌, map, refl, sym, arith}
 use Rattle.std.specs.declared.cmp.Ordering.TheVariants.{Equal}
 use Rattle.words.specs.Members.{In}
+use Rattle.words.proofs.Decided.{chosen}
 use Rattle.links.specs.Links.{Drives, here, onto, Below}
 use Rattle.links.proofs.Members.{in_left, in_right, in_map}
-use Rattle.links.proofs.Below.{below, below_complete}
+use Rattle.links.proofs.Below.{below_complete}
 use Rattle.links.proofs.Feeds.{feeds_on}
+use Rattle.links.specs.Below.{below}
 use Rattle.fabric.specs.Device.{Device}
 use Rattle.fabric.specs.Graph.{GraphArc}
 use Rattle.fabric.specs.GraphOf.{arc_cmp, IsGraph}
 use Rattle.fabric_laws.proofs.Orders.{arc_total, arc_ties}
 use Rattle.fabric_laws.proofs.Graphs.{arc_of, one_arc}
-use Rattle.upset_laws.proofs.Decided.{chosen}
 use Rattle.path_laws.proofs.Search.{IsFinite}
 use Rattle.repair.specs.Turns.{Turn, routing}
 use Rattle.repair.specs.Usable.{IsUsable}

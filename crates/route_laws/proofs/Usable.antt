@@ -3,14 +3,16 @@ use Rattle.std.proofs.Common.{◌≡◌, ◌≢◌, ℕ, Bool, true, false, inl,
 use Rattle.std.specs.Prelude.{slice_get}
 use Rattle.std.specs.List.{enumerate_from}
 use Rattle.words.specs.Members.{In}
+use Rattle.words.proofs.Decided.{Decided, both, either, never, decided_by, is_true, some_in, some}
 use Rattle.patterns.specs.Bits.{DeviceBit, Bits, flipped}
 use Rattle.patterns.specs.Fits.{present, has_plain_bit}
 use Rattle.records.specs.Config.{Config}
 use Rattle.records.specs.Side.{Domain, D0, D1, D2}
 use Rattle.links.specs.Links.{Link, Routing, Drives, Below, Feeds, Fed}
 use Rattle.links.proofs.Members.{any_of, is_in, same_number, in_map, in_flat_map}
-use Rattle.links.proofs.Below.{below, below_sound, below_complete, is_below}
+use Rattle.links.proofs.Below.{below_sound, below_complete, is_below}
 use Rattle.links.proofs.Feeds.{is_output, is_fed}
+use Rattle.links.specs.Below.{below}
 use Rattle.fabric.specs.Wires.{Wire}
 use Rattle.fabric.specs.Graph.{GraphMux, GraphArc, Graph}
 use Rattle.fabric.specs.Links.{is_chosen}
@@ -25,7 +27,6 @@ use Rattle.circuit.specs.Domains.{HasDomain}
 use Rattle.upset.specs.Configured.{Configured, circuit_of}
 use Rattle.upset.specs.Effect.{IsDisturbed, touched_names, IsTouched}
 use Rattle.upset.specs.Safe.{FlipsHave, only}
-use Rattle.upset_laws.proofs.Decided.{Decided, both, either, never, decided_by, is_true, some_in, some}
 use Rattle.upset_laws.proofs.Decide.{is_disturbed, effect_list}
 use Rattle.repair.specs.Plain.{bits_of_mux, setting_bits, unknown_bits, IsPlain}
 use Rattle.repair.specs.Added.{with_arc}

@@ -1,0 +1,5 @@
+pub mod PlainParts
+pub mod PlainUsable
+pub mod PlainCuts
+pub mod PlainPaths
+pub mod PlainStarts

@@ -1,9 +1,9 @@
-//! Numbers of eight kinds. One kind isn't another: code that mixes them doesn't compile. Contracts see each as
+//! Numbers of several kinds. One kind isn't another: code that mixes them doesn't compile. Contracts see each as
 //! its number.
 
 ghost use Rattle.std.specs.Prelude.{◌≡◌, ℕ, ◌<◌, ◌^◌};
 
-use std::marker::Model;
+use std::marker::{Model, PhantomData};
 
 /// A number of one kind.
 pub trait Id: Copy {
@@ -28,21 +28,27 @@ pub trait Id: Copy {
     ghost id_returns: { (id : Self) → id_of (number id) ≡ id };
 }
 
-/// The number of a wire of a graph.
-#[derive(Clone, Copy, Debug, PartialEq, Eq, PartialOrd, Ord, Hash)]
-pub struct WireId(u32);
+/// A number of the kind that `K` marks. Numbers of two kinds are of two types.
+#[derive_where(Clone, Copy, Debug, PartialEq, Eq, PartialOrd, Ord, Hash)]
+pub struct Number<K> {
+    value: u32,
+    kind: PhantomData<K>,
+}
 
-impl Model for WireId {
+impl<K> Model for Number<K> {
     ghost use Rattle.std.specs.Prelude.{ℕ};
+    ghost use Rattle.std.specs.Coded.{coded_ℕ};
 
     ghost Value = { ℕ };
 
-    ghost view = { λ id. id.0 };
+    ghost coded = { coded_ℕ };
 
-    ghost inverse = { λ n. record { 0 = n } };
+    ghost view = { λ id. id.value };
+
+    ghost inverse = { λ n. record { value = n; kind = record {} } };
 }
 
-impl Id for WireId {
+impl<K> Id for Number<K> {
     ghost use Rattle.std.specs.Prelude.{refl};
 
     ghost number = { λ id. id };
@@ -53,249 +59,38 @@ impl Id for WireId {
 
     ghost id_returns = { λ _. refl };
 
-    fn from_u32(n: u32) -> WireId {
-        WireId(n)
+    fn from_u32(n: u32) -> Number<K> {
+        Number {
+            value: n,
+            kind: PhantomData,
+        }
     }
 
     fn to_u32(self) -> u32 {
-        self.0
+        self.value
     }
 }
+
+/// Marks the numbers of wires.
+pub struct OfWire;
+
+/// Marks the numbers of routing muxes.
+pub struct OfMux;
+
+/// Marks the numbers of arcs.
+pub struct OfArc;
+
+/// Marks the numbers of tiles.
+pub struct OfTile;
+
+/// The number of a wire of a graph.
+pub type WireId = Number<OfWire>;
 
 /// The number of a routing mux of a graph.
-#[derive(Clone, Copy, Debug, PartialEq, Eq, PartialOrd, Ord, Hash)]
-pub struct MuxId(u32);
-
-impl Model for MuxId {
-    ghost use Rattle.std.specs.Prelude.{ℕ};
-
-    ghost Value = { ℕ };
-
-    ghost view = { λ id. id.0 };
-
-    ghost inverse = { λ n. record { 0 = n } };
-}
-
-impl Id for MuxId {
-    ghost use Rattle.std.specs.Prelude.{refl};
-
-    ghost number = { λ id. id };
-
-    ghost id_of = { λ n. n };
-
-    ghost value_returns = { λ _ _. refl };
-
-    ghost id_returns = { λ _. refl };
-
-    fn from_u32(n: u32) -> MuxId {
-        MuxId(n)
-    }
-
-    fn to_u32(self) -> u32 {
-        self.0
-    }
-}
+pub type MuxId = Number<OfMux>;
 
 /// The number of an arc of a graph.
-#[derive(Clone, Copy, Debug, PartialEq, Eq, PartialOrd, Ord, Hash)]
-pub struct ArcId(u32);
-
-impl Model for ArcId {
-    ghost use Rattle.std.specs.Prelude.{ℕ};
-
-    ghost Value = { ℕ };
-
-    ghost view = { λ id. id.0 };
-
-    ghost inverse = { λ n. record { 0 = n } };
-}
-
-impl Id for ArcId {
-    ghost use Rattle.std.specs.Prelude.{refl};
-
-    ghost number = { λ id. id };
-
-    ghost id_of = { λ n. n };
-
-    ghost value_returns = { λ _ _. refl };
-
-    ghost id_returns = { λ _. refl };
-
-    fn from_u32(n: u32) -> ArcId {
-        ArcId(n)
-    }
-
-    fn to_u32(self) -> u32 {
-        self.0
-    }
-}
+pub type ArcId = Number<OfArc>;
 
 /// The number of a tile of a grid.
-#[derive(Clone, Copy, Debug, PartialEq, Eq, PartialOrd, Ord, Hash)]
-pub struct TileId(u32);
-
-impl Model for TileId {
-    ghost use Rattle.std.specs.Prelude.{ℕ};
-
-    ghost Value = { ℕ };
-
-    ghost view = { λ id. id.0 };
-
-    ghost inverse = { λ n. record { 0 = n } };
-}
-
-impl Id for TileId {
-    ghost use Rattle.std.specs.Prelude.{refl};
-
-    ghost number = { λ id. id };
-
-    ghost id_of = { λ n. n };
-
-    ghost value_returns = { λ _ _. refl };
-
-    ghost id_returns = { λ _. refl };
-
-    fn from_u32(n: u32) -> TileId {
-        TileId(n)
-    }
-
-    fn to_u32(self) -> u32 {
-        self.0
-    }
-}
-
-/// The number of a named slice.
-#[derive(Clone, Copy, Debug, PartialEq, Eq, PartialOrd, Ord, Hash)]
-pub struct SliceId(u32);
-
-impl Model for SliceId {
-    ghost use Rattle.std.specs.Prelude.{ℕ};
-
-    ghost Value = { ℕ };
-
-    ghost view = { λ id. id.0 };
-
-    ghost inverse = { λ n. record { 0 = n } };
-}
-
-impl Id for SliceId {
-    ghost use Rattle.std.specs.Prelude.{refl};
-
-    ghost number = { λ id. id };
-
-    ghost id_of = { λ n. n };
-
-    ghost value_returns = { λ _ _. refl };
-
-    ghost id_returns = { λ _. refl };
-
-    fn from_u32(n: u32) -> SliceId {
-        SliceId(n)
-    }
-
-    fn to_u32(self) -> u32 {
-        self.0
-    }
-}
-
-/// The number of a named pad.
-#[derive(Clone, Copy, Debug, PartialEq, Eq, PartialOrd, Ord, Hash)]
-pub struct PadId(u32);
-
-impl Model for PadId {
-    ghost use Rattle.std.specs.Prelude.{ℕ};
-
-    ghost Value = { ℕ };
-
-    ghost view = { λ id. id.0 };
-
-    ghost inverse = { λ n. record { 0 = n } };
-}
-
-impl Id for PadId {
-    ghost use Rattle.std.specs.Prelude.{refl};
-
-    ghost number = { λ id. id };
-
-    ghost id_of = { λ n. n };
-
-    ghost value_returns = { λ _ _. refl };
-
-    ghost id_returns = { λ _. refl };
-
-    fn from_u32(n: u32) -> PadId {
-        PadId(n)
-    }
-
-    fn to_u32(self) -> u32 {
-        self.0
-    }
-}
-
-/// The number of a net.
-#[derive(Clone, Copy, Debug, PartialEq, Eq, PartialOrd, Ord, Hash)]
-pub struct NetId(u32);
-
-impl Model for NetId {
-    ghost use Rattle.std.specs.Prelude.{ℕ};
-
-    ghost Value = { ℕ };
-
-    ghost view = { λ id. id.0 };
-
-    ghost inverse = { λ n. record { 0 = n } };
-}
-
-impl Id for NetId {
-    ghost use Rattle.std.specs.Prelude.{refl};
-
-    ghost number = { λ id. id };
-
-    ghost id_of = { λ n. n };
-
-    ghost value_returns = { λ _ _. refl };
-
-    ghost id_returns = { λ _. refl };
-
-    fn from_u32(n: u32) -> NetId {
-        NetId(n)
-    }
-
-    fn to_u32(self) -> u32 {
-        self.0
-    }
-}
-
-/// The number of a connection.
-#[derive(Clone, Copy, Debug, PartialEq, Eq, PartialOrd, Ord, Hash)]
-pub struct ConnId(u32);
-
-impl Model for ConnId {
-    ghost use Rattle.std.specs.Prelude.{ℕ};
-
-    ghost Value = { ℕ };
-
-    ghost view = { λ id. id.0 };
-
-    ghost inverse = { λ n. record { 0 = n } };
-}
-
-impl Id for ConnId {
-    ghost use Rattle.std.specs.Prelude.{refl};
-
-    ghost number = { λ id. id };
-
-    ghost id_of = { λ n. n };
-
-    ghost value_returns = { λ _ _. refl };
-
-    ghost id_returns = { λ _. refl };
-
-    fn from_u32(n: u32) -> ConnId {
-        ConnId(n)
-    }
-
-    fn to_u32(self) -> u32 {
-        self.0
-    }
-}
+pub type TileId = Number<OfTile>;

@@ -13,7 +13,7 @@ mod typed;
 
 pub use bit::DeviceBit;
 pub use domain::Domain;
-pub use ids::{ArcId, ConnId, Id, MuxId, NetId, PadId, SliceId, TileId, WireId};
+pub use ids::{ArcId, Id, MuxId, Number, OfArc, OfMux, OfTile, OfWire, TileId, WireId};
 pub use limits::Limit;
 pub use list::List;
 pub use names::{Name, NameError, is_name};

@@ -4,16 +4,17 @@ ghost use Rattle.std.specs.Prelude.{◌≡◌, true, false, IfOk, IsErrOf};
 ghost use Rattle.std.specs.List.{list_all};
 ghost use Rattle.texts.specs.Names.{is_name as name_test, is_name_byte};
 
+use smallvec::SmallVec;
 use std::alloc::{AllocError, Global};
 use std::cmp::Ordering;
 use std::marker::Model;
 use thiserror::Error;
 
 /// Bytes that name a wire, a setting, a tile or a cell: 1 to 255 bytes, each from 0x21 to 0x7E. Names are
-/// ordered by their bytes.
+/// ordered by their bytes. A name of up to 24 bytes stands in the value itself, a longer one in one allocation.
 #[derive(Debug, Drop)]
 pub struct Name {
-    bytes: Vec<u8>,
+    bytes: SmallVec<u8, 24>,
 }
 
 impl Model for Name {
@@ -78,7 +79,7 @@ impl Name {
         if !is_name(bytes) {
             return Err(NameError::BadName);
         }
-        let bytes = Vec::from_slice(alloc, bytes)?;
+        let bytes = SmallVec::from_slice(alloc, bytes)?;
         Ok(Name { bytes })
     }
 
@@ -87,14 +88,14 @@ impl Name {
         ensures same { result.now ≡ self.now }
         ensures name { name_test self.now ≡ true }
     {
-        &self.bytes
+        self.bytes.as_slice()
     }
 
     /// An equal name.
     pub fn copy(&self) -> Result<Name, AllocError>
         ensures { IfOk result (λ name. name ≡ self.now) }
     {
-        let bytes = Vec::from_slice(*self.bytes.allocator(), &self.bytes)?;
+        let bytes = SmallVec::from_slice(*self.bytes.allocator(), self.bytes.as_slice())?;
         Ok(Name { bytes })
     }
 }

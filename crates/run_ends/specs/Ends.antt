@@ -3,8 +3,9 @@
 use Rattle.std.specs.Prelude.{◌≡◌, ℕ, List, [], ◌∷◌, ◌++◌, Result, Ok, Err, Some, codes, if◌then◌else◌}
 use Rattle.std.specs.Str.{bytes_eq}
 use Rattle.words.specs.Appended.{AppendsFront}
+use Rattle.texts.specs.Printing.{spaced, line_feed}
 use Rattle.answers.specs.Answers.{Status, Usage, ReadFault, WriteFault, Memory}
-use Rattle.answers.specs.Texts.{spaced, line_feed, usage_text, read_fault_text}
+use Rattle.answers.specs.Texts.{usage_text, read_fault_text}
 use Rattle.commands.specs.Commands.{Command}
 use Rattle.design_files.specs.Parsed.{Files}
 use Rattle.design_answers.specs.Outcomes.{Outcome, Written}

@@ -1,7 +1,7 @@
 -- Faults that are looked for in turn, and readings one after another.
 use Rattle.std.proofs.Common.{◌≡◌, Option, Some, None, Result, Ok, Err, IfSome, ap, ◌∙◌}
-use Rattle.words.specs.Firsts.{or_else}
-use Rattle.json_forms.specs.Results.{◌>>=◌, unless_fault}
+use Rattle.words.specs.Firsts.{or_else, unless_fault}
+use Rattle.json_forms.specs.Results.{◌>>=◌}
 
 -- the first that is looked for
 pub at_once : {X F : Type 0} (named a rest : Option F) (x : X) → IfSome named (λ f. unless_fault a x ≡ Err f) → IfSome named (λ f. unless_fault (or_else a rest) x ≡ Err f)

@@ -2,9 +2,9 @@
 
 ghost use Rattle.std.specs.Prelude.{◌≡◌, option_map, nat_lt};
 ghost use Rattle.words.specs.OrMemory.{OrMemory};
+ghost use Rattle.words.specs.Firsts.{unless_fault};
 ghost use Rattle.rr_ids.specs.Limits.{limit_of};
 ghost use Rattle.json_forms.specs.Faults as form;
-ghost use Rattle.json_forms.specs.Results.{unless_fault};
 ghost use Rattle.side_form.specs.Side as side_form;
 ghost use Rattle.side_file.specs.Faults.{fault_of};
 

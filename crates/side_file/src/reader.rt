@@ -3,7 +3,7 @@
 ghost use Rattle.std.specs.Prelude.{codes, map};
 ghost use Rattle.serde_json.specs.View.{view};
 ghost use Rattle.words.specs.OrMemory.{OrMemory};
-ghost use Rattle.json_forms.specs.Profile.{list_read, any_form};
+ghost use Rattle.json_forms.specs.Lists.{list_read, any_form};
 ghost use Rattle.json_values.specs.Faults.{list_fault};
 ghost use Rattle.side_form.specs.Placings.{placed_in, names_in, voter_in};
 ghost use Rattle.side_form.specs.Side.{side_in as side_in_spec, clocks_read, side_of};

@@ -5,15 +5,14 @@ use Rattle.std.specs.Option.{ok_or}
 use Rattle.std.specs.Set.{is_member}
 use Rattle.std.specs.Str.{bytes_eq}
 use Rattle.serde_json.specs.Data.{Data}
-use Rattle.words.specs.Firsts.{or_else, first_fault}
-use Rattle.records.specs.Limits.{Slices, Pads}
+use Rattle.words.specs.Firsts.{or_else, first_fault, unless_fault}
+use Rattle.records.specs.Limits.{Slices, Pads, most_slices, most_pads}
 use Rattle.records.specs.Side.{Domain, D0, D1, D2, Placed, Triple, Voter, Side}
-use Rattle.json_forms.specs.Results.{◌>>=◌, unless_fault}
+use Rattle.json_forms.specs.Results.{◌>>=◌}
 use Rattle.json_forms.specs.Values.{reading_of, object_in, list_in, member_in}
-use Rattle.json_forms.specs.Faults.{FormFault, NotJson, BadShape, TooLarge}
+use Rattle.json_forms.specs.Faults.{FormFault, NotJson, BadShape, TooLarge, top_key}
+use Rattle.json_forms.specs.Lists.{list_read, elements_read, any_form}
 use Rattle.side_form.specs.Placings.{placed_in, names_in, voter_in}
-use Rattle.json_forms.specs.Profile.{list_read, elements_read, any_form}
-use Rattle.json_forms.specs.Grid.{top_key}
 
 -- A fault of the form; a second use; a name that isn't listed as what it is used as; a cell in no triple; an
 -- entry of a triple that isn't in the domain of its place.
@@ -45,12 +44,6 @@ side_in d = do
   Ok (record { slices = slices; pads = pads; triples = triples; inputs = inputs; outputs = outputs; clocks = clocks; voters = voters })
 
 -- ---- limits
-
-abbrev pub most_slices : ℕ
-most_slices = 262144
-
-abbrev pub most_pads : ℕ
-most_pads = 65536
 
 abbrev pub size_fault : Side → Option SideFault
 size_fault side =

@@ -57,11 +57,11 @@ pub struct Lines<'a> {
 impl<'a> Model for Lines<'a> {
     ghost use Rattle.std.specs.Prelude.{List, ◌+◌, ◌<◌, ◌^◌, length};
     ghost use Rattle.texts.specs.Pieces.{pieces, placed};
-    ghost use Rattle.texts.specs.Lines.{Line as LineOf, numbered, is_line_feed};
+    ghost use Rattle.texts.specs.Lines.{Line as LineOf, numbered_lines, is_line_feed};
 
     ghost Value = { List LineOf };
 
-    ghost view = { λ s. numbered s.number (placed s.start (pieces is_line_feed s.rest.now)) };
+    ghost view = { λ s. numbered_lines s.number (placed s.start (pieces is_line_feed s.rest.now)) };
 
     ghost invariant = { λ s. s.start + length s.rest.now < 2 ^ 64 };
 }

@@ -9,18 +9,18 @@ use Rattle.std.specs.Cmp.Lexicographic.{nat_list_cmp_total}
 use Rattle.std.proofs.lemmas.List.Elements.{filter_map-append}
 use Rattle.words.specs.Members.{In}
 use Rattle.words.specs.Firsts.{first_fault_after, first_fault}
+use Rattle.words.specs.Twice.{HasNoneTwice}
+use Rattle.words.specs.Ordered.{put_in_order, put_once, in_order, in_order_once}
 use Rattle.records.specs.Config.{TileText, Config}
 use Rattle.links.proofs.Members.{in_map, of_map}
 use Rattle.fabric.specs.Wires.{name_cmp}
 use Rattle.fabric.specs.InOrder.{IsRising}
 use Rattle.fabric_laws.proofs.Orders.{name_same}
 use Rattle.cells_laws.proofs.Options.{or_none}
-use Rattle.formed_laws.specs.Twice.{HasNoneTwice}
 use Rattle.config_grammar.specs.ConfigLines.{ConfigLine, DeviceLine, HeadLine, TileLine, ArcOf, WordOf, EnumOf, UnknownOf, OutsideLine}
 use Rattle.config_grammar.specs.Sections.{Item, Behind, behind_with, behind_of, sections_of}
-use Rattle.config_grammar.specs.Ordered.{put_in_order, put_once, in_order, in_order_once}
-use Rattle.config_grammar.specs.ConfigText.{TooLarge, BadLine, items_of, devices_of, has_tile, most_sections, tile_fault, says_fault, item_fault, arc_key, section_in_order, config_of, with_device}
-use Rattle.records.specs.Limits.{Tiles}
+use Rattle.config_grammar.specs.ConfigText.{TooLarge, BadLine, items_of, devices_of, has_tile, tile_fault, says_fault, item_fault, arc_key, section_in_order, config_of, with_device}
+use Rattle.records.specs.Limits.{Tiles, most_tiles}
 use Rattle.text_laws.specs.Printed.{IsReadConfig}
 use Rattle.text_laws.specs.ConfigOrder.{IsInOrder}
 use Rattle.text_laws.proofs.Pushed.{pushed_twice, not_had}
@@ -101,7 +101,7 @@ names_are (i ∷ is) = names_step i.number i.says (behind_of is) ∙ ap (cons_op
 new_tile : (number : ℕ) (sections : List TileText) (name : List ℕ) → tile_fault number sections name ≡ None → has_tile sections name ≡ false
 new_tile number sections name h = go (has_tile sections name) h
   where
-    go : (b : Bool) → (cond b (Some (BadLine number)) (cond (nat_lt (length sections) most_sections) None (Some (TooLarge Tiles)))) ≡ None → b ≡ false
+    go : (b : Bool) → (cond b (Some (BadLine number)) (cond (nat_lt (length sections) most_tiles) None (Some (TooLarge Tiles)))) ≡ None → b ≡ false
     go true k = absurd (let no : ⊥ = cc in no)
     go false k = refl
 

@@ -9,9 +9,10 @@ use Rattle.words.specs.Members.{In}
 use Rattle.records.specs.Config.{Head, ArcLine, WordLine, EnumLine, UnknownLine, TileText, Config}
 use Rattle.texts.specs.Lines.{Line, lines_of}
 use Rattle.texts.specs.Parts.{no_line_feed}
+use Rattle.texts.specs.Printing.{line_of}
 use Rattle.links.proofs.Members.{in_either, of_map, of_flat_map}
 use Rattle.config_grammar.specs.ConfigLines.{ConfigLine, DeviceLine, HeadLine, TileLine, ArcOf, WordOf, EnumOf, UnknownOf, OutsideLine, without_blanks, says_words, begins_outside, is_return, says, is_skipped, words_in}
-use Rattle.config_grammar.specs.ConfigPrint.{line_of, arc_text, word_text, enum_text, unknown_text, lines_text, section_with, section_text, head_text, config_text}
+use Rattle.config_grammar.specs.ConfigPrint.{arc_text, word_text, enum_text, unknown_text, lines_text, section_with, section_text, head_text, config_text}
 use Rattle.config_grammar.specs.ConfigText.{item_of, items_of}
 use Rattle.text_laws.specs.Printed.{lined, AreOneLine, printed_line, said_in, section_says, said_by}
 use Rattle.text_laws.specs.Formed.{CanStand, IsFormedSection, IsFormedText}

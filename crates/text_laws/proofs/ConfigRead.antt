@@ -6,7 +6,8 @@ use Rattle.std.specs.declared.cmp.Ordering.TheVariants.{Less, Equal, Greater}
 use Rattle.std.specs.Ordering.{nat_cmp, match_ordering}
 use Rattle.std.specs.Cmp.Lexicographic.{slice_cmp}
 use Rattle.words.specs.Members.{In}
-use Rattle.words.specs.Firsts.{first_fault_after, first_fault}
+use Rattle.words.specs.Firsts.{first_fault_after, first_fault, fault_or}
+use Rattle.words.specs.Ordered.{put_in_order, put_once, in_order, in_order_once}
 use Rattle.records.specs.Config.{Head, ArcLine, WordLine, EnumLine, UnknownLine, TileText, Config}
 use Rattle.texts.specs.Lines.{Line, last_number, lines_of}
 use Rattle.texts.specs.Parts.{no_line_feed, IsTextOf}
@@ -17,8 +18,7 @@ use Rattle.fabric_laws.proofs.Members.{in_filter_from}
 use Rattle.cells_laws.proofs.Options.{or_none}
 use Rattle.config_grammar.specs.ConfigLines.{ConfigLine, DeviceLine, HeadLine, TileLine, ArcOf, WordOf, EnumOf, UnknownOf, OutsideLine, says, is_skipped, words_in}
 use Rattle.config_grammar.specs.Sections.{Item, no_lines, Behind, behind_with, behind_of, head_before, heads_of, device_in}
-use Rattle.config_grammar.specs.Ordered.{put_in_order, put_once, in_order, in_order_once}
-use Rattle.config_grammar.specs.ConfigText.{ConfigFault, item_of, items_of, says_fault, item_fault, arc_key, section_in_order, unless_fault}
+use Rattle.config_grammar.specs.ConfigText.{ConfigFault, item_of, items_of, says_fault, item_fault, arc_key, section_in_order}
 use Rattle.text_laws.specs.Formed.{CanStand, LinesCanStand, IsFormedSection}
 use Rattle.text_laws.proofs.TextLines.{words_are}
 use Rattle.text_laws.proofs.Said.{said_stands}
@@ -187,6 +187,6 @@ items_stand bytes h item i =
     subst (λ (x : Item). SaysWhatStands x.says) l.1.1
     (says_what_stands l.0 l.0.number f.0 (line_feeds 1 0 (lines_of bytes) bytes (lines_make bytes) l.0 there) (says l.0.text (words_in l.0)) refl right)
 
-pub no_fault : {c : Config} (o : Option ConfigFault) (r : Result Config ConfigFault) → unless_fault o r ≡ Ok c → (o ≡ None) × (r ≡ Ok c)
+pub no_fault : {c : Config} (o : Option ConfigFault) (r : Result Config ConfigFault) → fault_or o r ≡ Ok c → (o ≡ None) × (r ≡ Ok c)
 no_fault None r h = (refl, h)
 no_fault (Some f) r h = absurd (let no : ⊥ = cc in no)

@@ -8,7 +8,8 @@ use Rattle.std.proofs.lemmas.List.{length-map}
 use Rattle.std.proofs.lemmas.Slice.Eq.{bytes_eq-Decides}
 use Rattle.std.proofs.lemmas.List.Elements.{filter_map-append}
 use Rattle.words.specs.Members.{In}
-use Rattle.words.specs.Firsts.{first_fault_after, first_fault}
+use Rattle.words.specs.Firsts.{first_fault_after, first_fault, fault_or}
+use Rattle.words.specs.Twice.{HasNoneTwice}
 use Rattle.records.specs.Config.{Head, ArcLine, WordLine, EnumLine, UnknownLine, TileText, Config}
 use Rattle.formed_laws.proofs.Objects.{rising_once}
 use Rattle.links.proofs.Members.{in_map, in_either}
@@ -17,9 +18,8 @@ use Rattle.fabric_laws.proofs.Members.{any_from}
 use Rattle.config_grammar.specs.ConfigLines.{ConfigLine, DeviceLine, HeadLine, TileLine, ArcOf, WordOf, EnumOf, UnknownOf, OutsideLine}
 use Rattle.config_grammar.specs.ConfigPrint.{config_text}
 use Rattle.config_grammar.specs.Sections.{Item, sections_of, device_in}
-use Rattle.config_grammar.specs.ConfigText.{ConfigFault, BadLine, TooLarge, items_of, devices_of, has_tile, bad_if, is_none_yet, most_sections, tile_fault, says_fault, item_fault, config_of, with_device, unless_fault, configuration_of}
-use Rattle.records.specs.Limits.{Tiles}
-use Rattle.formed_laws.specs.Twice.{HasNoneTwice}
+use Rattle.config_grammar.specs.ConfigText.{ConfigFault, BadLine, TooLarge, items_of, devices_of, has_tile, bad_if, is_none_yet, tile_fault, says_fault, item_fault, config_of, with_device, configuration_of}
+use Rattle.records.specs.Limits.{Tiles, most_tiles}
 use Rattle.text_laws.specs.Formed.{IsFormedText}
 use Rattle.text_laws.specs.Printed.{said_in, section_says, said_by}
 use Rattle.text_laws.specs.SameButLines.{has_lines, EachHasLines, SameButLines}
@@ -57,7 +57,7 @@ tile_right : (n : ℕ) (before : List Item) (name : List ℕ) → (In (tile_name
 tile_right n before name new few =
     let sections = sections_of before in
     let size : length sections < 65536 = omega (arith, length-map {B = List ℕ} sections (λ t. t.tile), ap length (names_are before)) in
-    ap (λ b. cond b (Some (BadLine n)) (cond (nat_lt (length sections) most_sections) None (Some (TooLarge Tiles)))) (not_had_tile sections name (λ i. new (subst (λ ns. In ns name) (names_are before) i)))
+    ap (λ b. cond b (Some (BadLine n)) (cond (nat_lt (length sections) most_tiles) None (Some (TooLarge Tiles)))) (not_had_tile sections name (λ i. new (subst (λ ns. In ns name) (names_are before) i)))
     ∙ ap (λ b. cond b None (Some (TooLarge Tiles))) (lt-ltb (length sections) 65536 size)
 
 some_right : (n : ℕ) (before : List Item) → is_none_yet (tile_names before) ≡ false → bad_if (is_none_yet (sections_of before)) n ≡ None
@@ -170,7 +170,7 @@ printed_value c formed =
     let items = items_of (config_text c) in
     let once = rising_once (map (λ (t : TileText). t.tile) c.tiles) formed.order.tiles in
     let no_faults : first_fault item_fault items ≡ None = right (said_by c) [] items (printed_says c formed) (config_right c once formed.few) in
-    ap (λ f. unless_fault f (with_device items (devices_of items))) no_faults ∙ ap (with_device items) (its_device_is c formed)
+    ap (λ f. fault_or f (with_device items (devices_of items))) no_faults ∙ ap (with_device items) (its_device_is c formed)
 
 pub printed_read : (c : Config) → IsFormedText c → (d : Config) × ((configuration_of (config_text c) ≡ Ok d) × SameButLines c d)
 printed_read c formed = (config_of c.device (items_of (config_text c)), (printed_value c formed, same_again c formed))

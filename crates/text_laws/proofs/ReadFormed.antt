@@ -11,16 +11,16 @@ use Rattle.std.proofs.lemmas.List.{length-map}
 use Rattle.std.proofs.lemmas.List.Elements.{filter_map-append}
 use Rattle.words.specs.Members.{In}
 use Rattle.words.specs.Firsts.{first_fault_after, first_fault}
+use Rattle.words.specs.Ordered.{put_in_order, in_order}
 use Rattle.records.specs.Config.{TileText, Config}
-use Rattle.records.specs.Limits.{Tiles}
+use Rattle.records.specs.Limits.{Tiles, most_tiles}
 use Rattle.texts.specs.Names.{is_name}
 use Rattle.links.proofs.Members.{of_map}
 use Rattle.cells_laws.proofs.Options.{or_none}
 use Rattle.fabric_laws.proofs.Members.{in_filter_map_from}
 use Rattle.config_grammar.specs.ConfigLines.{ConfigLine, DeviceLine, HeadLine, TileLine, ArcOf, WordOf, EnumOf, UnknownOf, OutsideLine}
-use Rattle.config_grammar.specs.Ordered.{put_in_order, in_order}
 use Rattle.config_grammar.specs.Sections.{Item, sections_of, device_in}
-use Rattle.config_grammar.specs.ConfigText.{BadLine, TooLarge, items_of, devices_of, has_tile, most_sections, tile_fault, says_fault, item_fault, section_in_order, config_of, with_device}
+use Rattle.config_grammar.specs.ConfigText.{BadLine, TooLarge, items_of, devices_of, has_tile, tile_fault, says_fault, item_fault, section_in_order, config_of, with_device}
 use Rattle.text_laws.specs.ConfigOrder.{IsInOrder}
 use Rattle.text_laws.specs.Formed.{IsFormedSection, IsFormedText}
 use Rattle.text_laws.specs.Printed.{IsReadConfig}
@@ -31,9 +31,9 @@ use Rattle.text_laws.proofs.ConfigRead.{AllStand, behind_stands, heads_stand, de
 -- ---- a configuration that is read has few tiles
 
 few_tile : (n : ℕ) (sections : List TileText) (name : List ℕ) → tile_fault n sections name ≡ None → length sections < 65536
-few_tile n sections name h = go (has_tile sections name) (nat_lt (length sections) most_sections) refl h
+few_tile n sections name h = go (has_tile sections name) (nat_lt (length sections) most_tiles) refl h
   where
-    go : (b c : Bool) → nat_lt (length sections) most_sections ≡ c → cond b (Some (BadLine n)) (cond c None (Some (TooLarge Tiles))) ≡ None → length sections < 65536
+    go : (b c : Bool) → nat_lt (length sections) most_tiles ≡ c → cond b (Some (BadLine n)) (cond c None (Some (TooLarge Tiles))) ≡ None → length sections < 65536
     go true c e k = absurd (let no : ⊥ = cc in no)
     go false true e k = ltb-true (length sections) 65536 e
     go false false e k = absurd (let no : ⊥ = cc in no)

@@ -3,6 +3,7 @@ use Rattle.std.proofs.Common.{◌≡◌, ℕ, Bool, true, false, inl, inr, List,
 use Rattle.std.specs.declared.cmp.Ordering.TheVariants.{Less}
 use Rattle.std.specs.Ordering.{match_ordering}
 use Rattle.words.specs.Members.{In}
+use Rattle.words.specs.Ordered.{put_in_order, put_once, in_order, in_order_once}
 use Rattle.records.specs.Config.{ArcLine, WordLine, EnumLine, UnknownLine, TileText, Config}
 use Rattle.links.proofs.Members.{in_map, of_map}
 use Rattle.fabric.specs.Wires.{name_cmp}
@@ -11,7 +12,6 @@ use Rattle.fabric_laws.proofs.Members.{in_filter_from}
 use Rattle.config_grammar.specs.ConfigPrint.{config_text}
 use Rattle.config_grammar.specs.ConfigText.{items_of, arc_key, section_in_order, config_of}
 use Rattle.config_grammar.specs.Sections.{sections_of}
-use Rattle.config_grammar.specs.Ordered.{put_in_order, put_once, in_order, in_order_once}
 use Rattle.text_laws.specs.Formed.{IsFormedText}
 use Rattle.text_laws.specs.SameButLines.{unnumbered_arc, unnumbered, has_lines, EachHasLines, SameButLines}
 use Rattle.text_laws.proofs.PrintedParts.{its_heads_are, its_sections_are}

@@ -2,7 +2,8 @@
 use Rattle.std.proofs.Common.{◌≡◌, ℕ, Bool, true, false, List, [], ◌∷◌, ◌++◌, map, filter, cond, codes, refl, sym, ap, ap₂, ◌∙◌}
 use Rattle.std.specs.List.{flat_map}
 use Rattle.records.specs.Config.{Head, ArcLine, WordLine, EnumLine, UnknownLine, TileText, Config}
-use Rattle.config_grammar.specs.ConfigPrint.{line_of, arc_text, word_text, enum_text, unknown_text, lines_text, section_with, section_text, head_text, config_text}
+use Rattle.config_grammar.specs.ConfigPrint.{arc_text, word_text, enum_text, unknown_text, lines_text, section_with, section_text, head_text, config_text}
+use Rattle.texts.specs.Printing.{line_of}
 use Rattle.text_laws.specs.SameButLines.{unnumbered_arc, unnumbered_word, unnumbered_enum, unnumbered_unknown, unnumbered, has_lines, SameButLines}
 
 -- lines print without their numbers

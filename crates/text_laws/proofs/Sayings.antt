@@ -16,8 +16,8 @@ use Rattle.texts.specs.PatternBits.{pattern_bit_of}
 use Rattle.texts.specs.Words.{is_blank}
 use Rattle.texts.proofs.Printed.{bit_of_spelling}
 use Rattle.config_grammar.specs.ConfigLines.{ConfigLine, DeviceLine, HeadLine, TileLine, ArcOf, WordOf, EnumOf, UnknownOf, OutsideLine, without_blanks, is_bit_digit, bits_of_digits, unknown_at, says_two, says_three, says_words, is_outside, begins_outside, is_return, says}
-use Rattle.config_grammar.specs.ConfigPrint.{digits_text}
-use Rattle.text_laws.specs.Printed.{spaced, printed_line}
+use Rattle.config_grammar.specs.ConfigPrint.{word_digits}
+use Rattle.text_laws.specs.Printed.{words_text, printed_line}
 use Rattle.text_laws.specs.Formed.{IsHead, CanStand}
 use Rattle.text_laws.proofs.TextLines.{is_word, word_texts, words_are, IsWord, one_word, more_words}
 
@@ -85,19 +85,19 @@ bytes_like (b ∷ bs) h =
 
 -- ---- two or three words with a space between two
 
-two_words : (f a : List ℕ) → IsNameLike f → IsNameLike a → word_texts (spaced f (a ∷ [])) ≡ f ∷ a ∷ []
+two_words : (f a : List ℕ) → IsNameLike f → IsNameLike a → word_texts (words_text f (a ∷ [])) ≡ f ∷ a ∷ []
 two_words f a hf ha =
     ap (λ t. word_texts (f ++ 32 ∷ t)) (append-nil a) ∙ more_words f a (word_like f hf) ∙ ap (λ ws. f ∷ ws) (one_word a (word_like a ha))
 
-two_bytes : (f a : List ℕ) → IsNameLike f → IsNameLike a → LineBytes (spaced f (a ∷ []))
+two_bytes : (f a : List ℕ) → IsNameLike f → IsNameLike a → LineBytes (words_text f (a ∷ []))
 two_bytes f a hf ha = joined_bytes f (32 ∷ a ++ []) (bytes_like f hf.bytes) (joined_bytes a [] (bytes_like a ha.bytes) refl)
 
-three_words : (f a b : List ℕ) → IsNameLike f → IsNameLike a → IsNameLike b → word_texts (spaced f (a ∷ b ∷ [])) ≡ f ∷ a ∷ b ∷ []
+three_words : (f a b : List ℕ) → IsNameLike f → IsNameLike a → IsNameLike b → word_texts (words_text f (a ∷ b ∷ [])) ≡ f ∷ a ∷ b ∷ []
 three_words f a b hf ha hb =
     ap (λ t. word_texts (f ++ 32 ∷ (a ++ 32 ∷ t))) (append-nil b) ∙ more_words f (a ++ 32 ∷ b) (word_like f hf)
     ∙ ap (λ ws. f ∷ ws) (more_words a b (word_like a ha) ∙ ap (λ ws. a ∷ ws) (one_word b (word_like b hb)))
 
-three_bytes : (f a b : List ℕ) → IsNameLike f → IsNameLike a → IsNameLike b → LineBytes (spaced f (a ∷ b ∷ []))
+three_bytes : (f a b : List ℕ) → IsNameLike f → IsNameLike a → IsNameLike b → LineBytes (words_text f (a ∷ b ∷ []))
 three_bytes f a b hf ha hb =
     joined_bytes f (32 ∷ (a ++ 32 ∷ (b ++ []))) (bytes_like f hf.bytes)
     (joined_bytes a (32 ∷ (b ++ [])) (bytes_like a ha.bytes) (joined_bytes b [] (bytes_like b hb.bytes) refl))
@@ -113,13 +113,13 @@ says_as text words r e o =
     ∙ ap (λ ws. cond (begins_outside ws) (Some OutsideLine) (says_words (without_blanks text) ws)) e
     ∙ ap (λ b. cond b (Some OutsideLine) (says_words (without_blanks text) words)) o
 
-two_say : (f a : List ℕ) → IsNameLike f → IsNameLike a → is_outside f ≡ false → says_text (spaced f (a ∷ [])) ≡ says_two (without_blanks (spaced f (a ∷ []))) f a
-two_say f a hf ha o = says_as (spaced f (a ∷ [])) (f ∷ a ∷ []) (no_returns (spaced f (a ∷ [])) (two_bytes f a hf ha)) (two_words f a hf ha) o
+two_say : (f a : List ℕ) → IsNameLike f → IsNameLike a → is_outside f ≡ false → says_text (words_text f (a ∷ [])) ≡ says_two (without_blanks (words_text f (a ∷ []))) f a
+two_say f a hf ha o = says_as (words_text f (a ∷ [])) (f ∷ a ∷ []) (no_returns (words_text f (a ∷ [])) (two_bytes f a hf ha)) (two_words f a hf ha) o
 
 three_say : (f a b : List ℕ) → IsNameLike f → IsNameLike a → IsNameLike b → is_outside f ≡ false
-    → says_text (spaced f (a ∷ b ∷ [])) ≡ says_three (without_blanks (spaced f (a ∷ b ∷ []))) f a b
+    → says_text (words_text f (a ∷ b ∷ [])) ≡ says_three (without_blanks (words_text f (a ∷ b ∷ []))) f a b
 three_say f a b hf ha hb o =
-    says_as (spaced f (a ∷ b ∷ [])) (f ∷ a ∷ b ∷ []) (no_returns (spaced f (a ∷ b ∷ [])) (three_bytes f a b hf ha hb)) (three_words f a b hf ha hb) o
+    says_as (words_text f (a ∷ b ∷ [])) (f ∷ a ∷ b ∷ []) (no_returns (words_text f (a ∷ b ∷ [])) (three_bytes f a b hf ha hb)) (three_words f a b hf ha hb) o
 
 -- ---- digits of bits
 
@@ -143,7 +143,7 @@ map_reverse f [] = refl
 map_reverse f (x ∷ xs) =
     ap (map f) (reverse-append (x ∷ []) xs) ∙ map-append f (reverse xs) (x ∷ []) ∙ ap (λ r. r ++ f x ∷ []) (map_reverse f xs) ∙ sym (reverse-append (f x ∷ []) (map f xs))
 
-bits_back : (bits : List Bool) → bits_of_digits (digits_text bits) ≡ bits
+bits_back : (bits : List Bool) → bits_of_digits (word_digits bits) ≡ bits
 bits_back bits =
     ap (λ ds. map (λ b. b == 49) (reverse ds)) (map_reverse (λ b. cond b 49 48) bits)
     ∙ ap (λ ds. map (λ b. b == 49) ds) (reverse-reverse (map (λ b. cond b 49 48) bits)) ∙ bits_same bits
@@ -152,10 +152,10 @@ some_word : (word : List ℕ) → 0 < length word → is_word word ≡ true
 some_word [] h = absurd (omega arith)
 some_word (b ∷ bs) h = refl
 
-digits_like : (bits : List Bool) → 0 < length bits → IsNameLike (digits_text bits)
+digits_like : (bits : List Bool) → 0 < length bits → IsNameLike (word_digits bits)
 digits_like bits h =
-    let size : 0 < length (digits_text bits) = omega (arith, length-map {B = ℕ} (reverse bits) (λ b. cond b 49 48), length-reverse bits) in
-    record { some = some_word (digits_text bits) size; bytes = digits_bytes (reverse bits) }
+    let size : 0 < length (word_digits bits) = omega (arith, length-map {B = ℕ} (reverse bits) (λ b. cond b 49 48), length-reverse bits) in
+    record { some = some_word (word_digits bits) size; bytes = digits_bytes (reverse bits) }
 
 -- ---- an unknown bit
 
@@ -208,9 +208,9 @@ says_printed (ArcOf sink source) h =
     three_say (codes "arc:") sink source (record { some = refl; bytes = refl }) (name_like sink h.0) (name_like source h.1) refl
     ∙ if_named (ArcOf sink source) (is_name sink && is_name source) (and_from (is_name sink) (is_name source) h.0 h.1)
 says_printed (WordOf name bits) h =
-    three_say (codes "word:") name (digits_text bits) (record { some = refl; bytes = refl }) (name_like name h.0) (digits_like bits h.1) refl
-    ∙ if_named (WordOf name (bits_of_digits (digits_text bits))) (is_name name && list_all is_bit_digit (digits_text bits))
-    (and_from (is_name name) (list_all is_bit_digit (digits_text bits)) h.0 (digits_are (reverse bits)))
+    three_say (codes "word:") name (word_digits bits) (record { some = refl; bytes = refl }) (name_like name h.0) (digits_like bits h.1) refl
+    ∙ if_named (WordOf name (bits_of_digits (word_digits bits))) (is_name name && list_all is_bit_digit (word_digits bits))
+    (and_from (is_name name) (list_all is_bit_digit (word_digits bits)) h.0 (digits_are (reverse bits)))
     ∙ ap (λ bs. Some (WordOf name bs)) (bits_back bits)
 says_printed (EnumOf name value) h =
     three_say (codes "enum:") name value (record { some = refl; bytes = refl }) (name_like name h.0) (name_like value h.1) refl
@@ -223,14 +223,14 @@ says_printed OutsideLine h = absurd h
 
 -- and stays one line
 pub printed_bytes : (line : ConfigLine) → CanStand line → (no_line_feed (printed_line line) ≡ true) × (list_any is_return (printed_line line) ≡ false)
-printed_bytes (DeviceLine name) h = (let b = two_bytes (codes ".device") name (record { some = refl; bytes = refl }) (name_like name h) in (no_feeds (spaced (codes ".device") (name ∷ [])) b, no_returns (spaced (codes ".device") (name ∷ [])) b))
+printed_bytes (DeviceLine name) h = (let b = two_bytes (codes ".device") name (record { some = refl; bytes = refl }) (name_like name h) in (no_feeds (words_text (codes ".device") (name ∷ [])) b, no_returns (words_text (codes ".device") (name ∷ [])) b))
 printed_bytes (HeadLine text) h = (h.one_line, h.returns)
-printed_bytes (TileLine name) h = (let b = two_bytes (codes ".tile") name (record { some = refl; bytes = refl }) (name_like name h) in (no_feeds (spaced (codes ".tile") (name ∷ [])) b, no_returns (spaced (codes ".tile") (name ∷ [])) b))
+printed_bytes (TileLine name) h = (let b = two_bytes (codes ".tile") name (record { some = refl; bytes = refl }) (name_like name h) in (no_feeds (words_text (codes ".tile") (name ∷ [])) b, no_returns (words_text (codes ".tile") (name ∷ [])) b))
 printed_bytes (ArcOf sink source) h =
     (let b = three_bytes (codes "arc:") sink source (record { some = refl; bytes = refl }) (name_like sink h.0) (name_like source h.1) in
     (no_feeds (printed_line (ArcOf sink source)) b, no_returns (printed_line (ArcOf sink source)) b))
 printed_bytes (WordOf name bits) h =
-    (let b = three_bytes (codes "word:") name (digits_text bits) (record { some = refl; bytes = refl }) (name_like name h.0) (digits_like bits h.1) in
+    (let b = three_bytes (codes "word:") name (word_digits bits) (record { some = refl; bytes = refl }) (name_like name h.0) (digits_like bits h.1) in
     (no_feeds (printed_line (WordOf name bits)) b, no_returns (printed_line (WordOf name bits)) b))
 printed_bytes (EnumOf name value) h =
     (let b = three_bytes (codes "enum:") name value (record { some = refl; bytes = refl }) (name_like name h.0) (name_like value h.1) in

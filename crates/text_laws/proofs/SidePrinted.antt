@@ -9,13 +9,12 @@ use Rattle.json.proofs.Printed.Utf8.{IsUtf8-are_ascii}
 use Rattle.serde_json.specs.Data.{Data, Members, no_members, member}
 use Rattle.serde_json.specs.View.{items_of}
 use Rattle.words.specs.Members.{In}
-use Rattle.words.specs.Firsts.{first_fault_after, first_fault}
+use Rattle.words.specs.Firsts.{first_fault_after, first_fault, unless_fault}
 use Rattle.records.specs.Side.{Placed, Triple, Voter, Side}
-use Rattle.json_forms.specs.Faults.{FormFault, NotJson, BadShape}
-use Rattle.json_forms.specs.Results.{◌>>=◌, unless_fault}
+use Rattle.json_forms.specs.Faults.{FormFault, NotJson, BadShape, top_key}
+use Rattle.json_forms.specs.Results.{◌>>=◌}
 use Rattle.json_forms.specs.Values.{elements, list_in, member_in, reading_of, object_in}
-use Rattle.json_forms.specs.Profile.{element_key, verdict_fault, element_verdict, element_fault, elements_read, list_read, any_form}
-use Rattle.json_forms.specs.Grid.{top_key}
+use Rattle.json_forms.specs.Lists.{element_key, verdict_fault, element_verdict, element_fault, elements_read, list_read, any_form}
 use Rattle.side_form.specs.Placings.{placed_in, names_in, voter_in}
 use Rattle.side_form.specs.Side.{SideFault, OfForm, clocks_read, side_in, side_fault, in_form, side_of}
 use Rattle.side_form.specs.SidePrint.{list_value, placed_value, triple_value, voter_value, side_value, side_text}

@@ -5,7 +5,7 @@ use Rattle.std.specs.List.{list_any}
 use Rattle.std.proofs.lemmas.Bool.{or_parts}
 use Rattle.words.specs.Members.{In}
 use Rattle.texts.specs.Pieces.{pieces, placed}
-use Rattle.texts.specs.Lines.{Line, is_line_feed, without_return, last_number, numbered, lines_of}
+use Rattle.texts.specs.Lines.{Line, is_line_feed, without_return, last_number, numbered_lines, lines_of}
 use Rattle.texts.specs.Words.{is_blank, has_bytes}
 use Rattle.texts.specs.Parts.{no_line_feed, no_blank}
 use Rattle.texts.proofs.Joined.{pieces-append, pieces_alone}
@@ -29,14 +29,14 @@ returns_kept : (bytes : List ℕ) → list_any is_return bytes ≡ false → wit
 returns_kept bytes h = rw (no_return_at bytes (length bytes - 1) h)
 
 texts_numbered : (number start : ℕ) (texts : List (List ℕ)) → ((text : List ℕ) → In texts text → list_any is_return text ≡ false)
-    → map (λ line. line.text) (numbered number (placed start texts)) ≡ texts
+    → map (λ line. line.text) (numbered_lines number (placed start texts)) ≡ texts
 texts_numbered number start [] h = refl
 texts_numbered number start (text ∷ texts) h =
     ap₂ (λ (t : List ℕ) ts. t ∷ ts) (returns_kept text (h text (inl refl))) (texts_numbered (min (number + 1) last_number) (start + length text + 1) texts (λ t i. h t (inr i)))
 
 pub lines_back : (texts : List (List ℕ)) → AreOneLine texts → map (λ line. line.text) (lines_of (lined texts)) ≡ texts
 lines_back texts h =
-    ap (λ ps. map (λ line. line.text) (numbered 1 (placed 0 ps))) (pieces_back texts (λ t i. (h t i).0)) ∙ texts_numbered 1 0 texts (λ t i. (h t i).1)
+    ap (λ ps. map (λ line. line.text) (numbered_lines 1 (placed 0 ps))) (pieces_back texts (λ t i. (h t i).0)) ∙ texts_numbered 1 0 texts (λ t i. (h t i).1)
 
 -- ---- words
 

@@ -8,8 +8,8 @@ use Rattle.texts.specs.Names.{is_name}
 use Rattle.texts.specs.Parts.{no_line_feed}
 use Rattle.records.specs.Config.{Head, ArcLine, WordLine, EnumLine, UnknownLine, TileText, Config}
 use Rattle.records.specs.Side.{Placed, Triple, Voter, Side}
+use Rattle.records.specs.Limits.{most_tiles}
 use Rattle.config_grammar.specs.ConfigLines.{ConfigLine, DeviceLine, HeadLine, TileLine, ArcOf, WordOf, EnumOf, UnknownOf, OutsideLine, is_return, says, words_in}
-use Rattle.config_grammar.specs.ConfigText.{most_sections}
 use Rattle.side_form.specs.Side.{side_fault}
 use Rattle.text_laws.specs.ConfigOrder.{IsInOrder}
 use Rattle.text_laws.specs.SameButLines.{has_lines}
@@ -49,7 +49,7 @@ pub record IsFormedText (c : Config) : Type 0 where
   pub heads : (h : Head) → In c.heads h → CanStand (HeadLine h.text)
   pub sections : (t : TileText) → In c.tiles t → IsFormedSection t
   pub order : IsInOrder c
-  pub few : length (filter has_lines c.tiles) ≤ most_sections
+  pub few : length (filter has_lines c.tiles) ≤ most_tiles
 
 -- the names of a cell are names
 pub record IsFormedCell (p : Placed) : Type 0 where

@@ -4,8 +4,9 @@ use Rattle.std.specs.List.{list_any}
 use Rattle.std.specs.Fmt.{decimal}
 use Rattle.words.specs.Members.{In}
 use Rattle.texts.specs.Parts.{no_line_feed}
+use Rattle.texts.specs.Printing.{spaced}
 use Rattle.config_grammar.specs.ConfigLines.{ConfigLine, DeviceLine, HeadLine, TileLine, ArcOf, WordOf, EnumOf, UnknownOf, OutsideLine, is_return}
-use Rattle.config_grammar.specs.ConfigPrint.{digits_text}
+use Rattle.config_grammar.specs.ConfigPrint.{word_digits}
 use Rattle.config_grammar.specs.ConfigText.{configuration_of}
 use Rattle.records.specs.Config.{TileText, Config}
 
@@ -18,18 +19,18 @@ abbrev pub AreOneLine : List (List ℕ) → Type 0
 AreOneLine texts = (text : List ℕ) → In texts text → (no_line_feed text ≡ true) × (list_any is_return text ≡ false)
 
 -- a word, and more words with a space before each
-abbrev pub spaced : List ℕ → List (List ℕ) → List ℕ
-spaced word words = word ++ flat_map (λ w. 32 ∷ w) words
+abbrev pub words_text : List ℕ → List (List ℕ) → List ℕ
+words_text word words = word ++ spaced words
 
 -- how a line that says this is printed, without its line feed; a block that isn't modelled is never printed
 abbrev pub printed_line : ConfigLine → List ℕ
-printed_line (DeviceLine name) = spaced (codes ".device") (name ∷ [])
+printed_line (DeviceLine name) = words_text (codes ".device") (name ∷ [])
 printed_line (HeadLine text) = text
-printed_line (TileLine name) = spaced (codes ".tile") (name ∷ [])
-printed_line (ArcOf sink source) = spaced (codes "arc:") (sink ∷ source ∷ [])
-printed_line (WordOf name bits) = spaced (codes "word:") (name ∷ digits_text bits ∷ [])
-printed_line (EnumOf name value) = spaced (codes "enum:") (name ∷ value ∷ [])
-printed_line (UnknownOf frame bit) = spaced (codes "unknown:") ((codes "F" ++ decimal frame ++ codes "B" ++ decimal bit) ∷ [])
+printed_line (TileLine name) = words_text (codes ".tile") (name ∷ [])
+printed_line (ArcOf sink source) = words_text (codes "arc:") (sink ∷ source ∷ [])
+printed_line (WordOf name bits) = words_text (codes "word:") (name ∷ word_digits bits ∷ [])
+printed_line (EnumOf name value) = words_text (codes "enum:") (name ∷ value ∷ [])
+printed_line (UnknownOf frame bit) = words_text (codes "unknown:") ((codes "F" ++ decimal frame ++ codes "B" ++ decimal bit) ∷ [])
 printed_line OutsideLine = []
 
 -- what the lines of a section say

@@ -4,7 +4,7 @@ use Rattle.std.proofs.lemmas.List.{length-take-le, drop_min}
 use Rattle.std.proofs.lemmas.List.Sums.{prefix_len-le-length}
 use Rattle.std.specs.List.{position_or_len, before_first, after_first}
 use Rattle.texts.specs.Pieces.{put_front, pieces, placed}
-use Rattle.texts.specs.Lines.{Line, is_line_feed, without_return, last_number, numbered}
+use Rattle.texts.specs.Lines.{Line, is_line_feed, without_return, last_number, numbered_lines}
 
 one_more : (n : ℕ) → 1 + n ≡ suc n
 one_more n = omega arith
@@ -50,7 +50,7 @@ module _ (p : ℕ → Bool) where
 
 -- the lines of a text that begins at a place, numbered from a number on
 abbrev pub lines_from : ℕ → ℕ → List ℕ → List Line
-lines_from number start xs = numbered number (placed start (pieces is_line_feed xs))
+lines_from number start xs = numbered_lines number (placed start (pieces is_line_feed xs))
 
 -- the first of them, and the others
 pub line_first : (number next start after : ℕ) (xs text rest : List ℕ) → (length xs ≡ 0 → ⊥) → text ≡ without_return (before_first is_line_feed xs)
@@ -58,4 +58,4 @@ pub line_first : (number next start after : ℕ) (xs text rest : List ℕ) → (
     → lines_from number start xs ≡ record { number = number; start = start; text = text } ∷ lines_from next (start + after) rest
 line_first number next start after [] text rest some text_is after_is rest_is next_is = absurd (some refl)
 line_first number next start after (b ∷ bs) text rest some text_is after_is rest_is next_is =
-    rw (text_is, rest_is, next_is) (ap (numbered number) (placed_first is_line_feed start b bs after after_is))
+    rw (text_is, rest_is, next_is) (ap (numbered_lines number) (placed_first is_line_feed start b bs after after_is))

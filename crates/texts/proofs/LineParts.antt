@@ -6,7 +6,7 @@ use Rattle.std.proofs.lemmas.List.Folds.{list_all-append}
 use Rattle.std.proofs.lemmas.List.Sums.{split_at_first, passes_at_first}
 use Rattle.std.specs.List.{position_or_len, before_first}
 use Rattle.texts.specs.Pieces.{pieces, placed}
-use Rattle.texts.specs.Lines.{Line, is_line_feed, without_return, last_number, numbered}
+use Rattle.texts.specs.Lines.{Line, is_line_feed, without_return, last_number, numbered_lines}
 use Rattle.texts.specs.Parts.{BeginsWithLine, IsTextOf, ends_in_return, no_line_feed}
 use Rattle.texts.proofs.FirstPiece.{lines_from, line_first}
 use Rattle.texts.proofs.Joined.{list_all-before_first, pieces-append, pieces_alone, both, both_left}
@@ -127,11 +127,11 @@ module _ (number start : ℕ) (text line after : List ℕ) (b : BeginsWithLine t
 
   -- where the first piece and what stands behind it are these, the first line is this
   first_of : (rest : List (List ℕ)) (at : ℕ) → pieces is_line_feed text ≡ piece ∷ rest
-      → numbered next (placed (start + length piece + 1) rest) ≡ lines_from next at after
+      → numbered_lines next (placed (start + length piece + 1) rest) ≡ lines_from next at after
       → lines_from number start text ≡ record { number = number; start = start; text = line } ∷ lines_from next at after
   first_of rest at cut later =
-      ap (λ ps. numbered number (placed start ps)) cut
-      ∙ (ap (λ t. record { number = number; start = start; text = t } ∷ numbered next (placed (start + length piece + 1) rest)) (without_return-append line b.has_return b.dropped)
+      ap (λ ps. numbered_lines number (placed start ps)) cut
+      ∙ (ap (λ t. record { number = number; start = start; text = t } ∷ numbered_lines next (placed (start + length piece + 1) rest)) (without_return-append line b.has_return b.dropped)
       ∙ ap (λ ls. record { number = number; start = start; text = line } ∷ ls) later)
 
   first_line_at : (t : Bool) → b.has_feed ≡ t

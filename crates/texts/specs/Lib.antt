@@ -5,3 +5,4 @@ pub mod Parts
 pub mod Numbers
 pub mod Names
 pub mod PatternBits
+pub mod Printing

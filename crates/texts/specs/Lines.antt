@@ -24,14 +24,14 @@ abbrev pub last_number : ℕ
 last_number = 2 ^ 32 - 1
 
 -- parts of a source as lines, numbered from a number on
-abbrev pub numbered : ℕ → List Span → List Line
-numbered number [] = []
-numbered number (s ∷ ss) =
-    record { number = number; start = s.start; text = without_return s.text } ∷ numbered (min (number + 1) last_number) ss
+abbrev pub numbered_lines : ℕ → List Span → List Line
+numbered_lines number [] = []
+numbered_lines number (s ∷ ss) =
+    record { number = number; start = s.start; text = without_return s.text } ∷ numbered_lines (min (number + 1) last_number) ss
 
 -- The lines of a text: what stands between line feeds, without a carriage return before the line's end.
 abbrev pub lines_of : List ℕ → List Line
-lines_of text = numbered 1 (placed 0 (pieces is_line_feed text))
+lines_of text = numbered_lines 1 (placed 0 (pieces is_line_feed text))
 
 -- the line before its first `#`
 abbrev pub before_hash : Line → Line

@@ -1,6 +1,6 @@
 -- The bounds that every tile keeps.
 use Rattle.std.specs.Prelude.{ℕ, ◌≤◌}
-use Rattle.json_forms.specs.Tiles.{most_in_tile}
+use Rattle.records.specs.Limits.{most_in_tile}
 
 -- the four numbers of a tile are small enough that each part of a device bit is below 2 ^ 32
 pub record IsSmall (frames bits frame bit : ℕ) : Type 0 where

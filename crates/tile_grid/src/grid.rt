@@ -3,9 +3,9 @@
 ghost use Rattle.std.specs.Prelude.{◌≡◌, map, length, IfOk};
 ghost use Rattle.serde_json.specs.View.{members_view};
 ghost use Rattle.words.specs.OrMemory.{OrMemory};
+ghost use Rattle.words.specs.Firsts.{unless_fault};
 ghost use Rattle.json_forms.specs.Values.{members};
 ghost use Rattle.json_forms.specs.Each.{each_or_fault};
-ghost use Rattle.json_forms.specs.Results.{unless_fault};
 ghost use Rattle.json_forms.specs.Tiles.{tile_of};
 ghost use Rattle.json_forms.specs.Grid.{grid_of, grid_of_members as grid_of_members_spec, count_fault, extent_of, places_of, type_count as type_count_of};
 ghost use Rattle.tile_grid.specs.Faults.{fault_of};

@@ -2,10 +2,11 @@
 
 ghost use Rattle.std.specs.Prelude.{◌≡◌, ◌≤◌, IfSome};
 ghost use Rattle.serde_json.specs.View.{view};
-ghost use Rattle.json_forms.specs.Tiles.{most_in_tile, tile_number_in, tile_in, tile_of};
+ghost use Rattle.json_forms.specs.Tiles.{tile_number_in, tile_in, tile_of};
 ghost use Rattle.json_forms.specs.Places.{place_of};
 ghost use Rattle.json_values.specs.Reads.{Reads};
 ghost use Rattle.words.specs.OrMemory.{OrMemory};
+ghost use Rattle.records.specs.Limits.{most_in_tile};
 ghost use Rattle.tile_grid.specs.Placed.{with_place, place_if_fits};
 ghost use Rattle.tile_grid.specs.Faults.{fault_of};
 

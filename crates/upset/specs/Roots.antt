@@ -1,10 +1,9 @@
 -- Where the disturbance begins: hit wires, and sources of shorted wires. In a clean image domains go along
 -- counting drivers, so these wires have all the domains that the disturbed wires have. (Our own.)
-use Rattle.std.specs.Prelude.{ℕ, List, ◌⊎◌}
+use Rattle.std.specs.Prelude.{ℕ, ◌⊎◌}
 use Rattle.patterns.specs.Bits.{Bits}
 use Rattle.records.specs.Side.{Domain}
-use Rattle.circuit.specs.Triples.{LiesIn}
-use Rattle.circuit.specs.Domains.{HasDomain}
+use Rattle.circuit.specs.Faults.{OneHas}
 use Rattle.upset.specs.Configured.{Configured, circuit_of}
 use Rattle.upset.specs.Effect.{IsHit, IsShortSource, IsTouched}
 
@@ -13,4 +12,4 @@ IsRoot k flips w = IsHit k flips w ⊎ IsShortSource k flips w
 
 -- d is the domain of a root or of a touched cell
 abbrev pub RootsHave : Configured → Bits → Domain → Type 0
-RootsHave k flips d = ((w : ℕ) × (IsRoot k flips w × HasDomain (circuit_of k) w d)) ⊎ ((name : List ℕ) × (IsTouched k flips name × LiesIn k.cells name d))
+RootsHave k flips d = OneHas (circuit_of k) (IsRoot k flips) (IsTouched k flips) d

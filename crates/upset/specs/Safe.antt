@@ -1,17 +1,15 @@
 -- Flips that reach two copies. (The aim is RoRA's; the form is our own.)
-use Rattle.std.specs.Prelude.{◌≡◌, ◌≢◌, ℕ, true, List, ◌⊎◌}
+use Rattle.std.specs.Prelude.{◌≡◌, ◌≢◌, true}
 use Rattle.patterns.specs.Bits.{DeviceBit, Bits, same_bit}
 use Rattle.records.specs.Side.{Domain}
 use Rattle.fabric.specs.MuxBits.{is_mux_bit}
-use Rattle.circuit.specs.Triples.{LiesIn}
-use Rattle.circuit.specs.Domains.{HasDomain}
-use Rattle.circuit.specs.Faults.{Fault}
+use Rattle.circuit.specs.Faults.{Fault, OneHas}
 use Rattle.upset.specs.Configured.{Configured, circuit_of}
 use Rattle.upset.specs.Effect.{IsDisturbed, IsTouched, IsEffect}
 
 -- d is a domain of the flips: that of a disturbed wire or of a touched cell
 abbrev pub FlipsHave : Configured → Bits → Domain → Type 0
-FlipsHave k flips d = ((w : ℕ) × (IsDisturbed k flips w × HasDomain (circuit_of k) w d)) ⊎ ((name : List ℕ) × (IsTouched k flips name × LiesIn k.cells name d))
+FlipsHave k flips d = OneHas (circuit_of k) (IsDisturbed k flips) (IsTouched k flips) d
 
 -- flips are bad when they have two domains
 abbrev pub IsBad : Configured → Bits → Type 0

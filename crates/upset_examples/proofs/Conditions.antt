@@ -2,7 +2,8 @@
 use Rattle.std.proofs.Common.{◌≡◌, true, refl}
 use Rattle.std.specs.List.{list_all}
 use Rattle.links.specs.Links.{IsClean}
-use Rattle.links.proofs.Below.{has, in_has}
+use Rattle.links.proofs.Below.{in_has}
+use Rattle.links.specs.Below.{has}
 use Rattle.fabric.specs.Links.{routing_of}
 use Rattle.circuit.specs.Parts.{sources}
 use Rattle.fabric_laws.specs.PlainGraph.{graph_of}

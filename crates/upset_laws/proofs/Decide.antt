@@ -1,6 +1,7 @@
 -- Whether a wire is hit, shorted or disturbed can be decided, and so the effect can be listed.
 use Rattle.std.proofs.Common.{◌≡◌, ◌≢◌, ℕ, true, ◌⊎◌, ◌↔◌, inl, inr, List, ◌++◌, map, ap}
 use Rattle.words.specs.Members.{In}
+use Rattle.words.proofs.Decided.{Decided, both, either, never, decided_by, is_true, some_in, some, chosen}
 use Rattle.patterns.specs.Bits.{Bits}
 use Rattle.links.specs.Links.{Link, here, onto, Upstream}
 use Rattle.links.proofs.Members.{in_left, in_right, in_map, is_in, same_number}
@@ -10,7 +11,6 @@ use Rattle.circuit.specs.Faults.{Fault}
 use Rattle.upset.specs.Configured.{Configured}
 use Rattle.upset.specs.After.{is_affected, links_after}
 use Rattle.upset.specs.Effect.{Before, After, IsHit, HasTwoAfter, IsShorted, IsShortSource, BehindShort, IsDisturbed, touched_names, IsEffect}
-use Rattle.upset_laws.proofs.Decided.{Decided, both, either, never, decided_by, is_true, some_in, some, chosen}
 use Rattle.upset_laws.proofs.Upstream.{is_upstream}
 
 same_link : (a b : Link) → (a ≡ b) ⊎ (a ≢ b)

@@ -1,5 +1,4 @@
 pub mod Roots
-pub mod Decided
 pub mod Upstream
 pub mod Decide
 pub mod Masked

@@ -6,7 +6,8 @@ use Rattle.std.proofs.lemmas.Bool.{false≢true, and_parts, and_from, or_cases, 
 use Rattle.words.specs.Members.{In}
 use Rattle.patterns.specs.Bits.{Bits}
 use Rattle.links.proofs.Members.{in_left, in_right, in_either, in_map, of_map, in_flat_map, of_flat_map}
-use Rattle.links.proofs.Below.{has, has_in, in_has}
+use Rattle.links.proofs.Below.{has_in, in_has}
+use Rattle.links.specs.Below.{has}
 use Rattle.fabric.specs.Device.{Device}
 use Rattle.fabric.specs.Graph.{GraphArc, Graph}
 use Rattle.fabric.specs.GraphOf.{IsGraph}

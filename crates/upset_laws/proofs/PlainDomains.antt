@@ -9,8 +9,9 @@ use Rattle.patterns.specs.Bits.{Bits, same_bit}
 use Rattle.records.specs.Side.{Domain, D0, D1, D2}
 use Rattle.links.specs.Links.{Feeds, IsClean}
 use Rattle.links.proofs.Members.{in_left, in_right, in_either, in_map, of_map}
-use Rattle.links.proofs.Below.{below, below_sound, below_complete, has, has_in, in_has}
+use Rattle.links.proofs.Below.{below_sound, below_complete, has_in, in_has}
 use Rattle.links.proofs.Feeds.{one_feed}
+use Rattle.links.specs.Below.{below, has}
 use Rattle.fabric.specs.Device.{Device}
 use Rattle.fabric.specs.GraphOf.{IsGraph}
 use Rattle.fabric.specs.Links.{links_of, routing_of}
@@ -24,7 +25,7 @@ use Rattle.upset.specs.Configured.{Configured, circuit_of}
 use Rattle.upset.specs.Effect.{IsHit, IsShortSource, touched_names}
 use Rattle.upset.specs.Roots.{IsRoot, RootsHave}
 use Rattle.upset.specs.Safe.{FlipsHave, IsBad, only, IsSafe}
-use Rattle.upset_laws.specs.PlainUpset.{OutputsListed, hit_wires, short_sources, Fed, fed_wires, same_domain, domains_of, two_domains, is_bad, is_safe}
+use Rattle.upset_laws.specs.PlainUpset.{OutputsListed, hit_wires, short_sources, FedWires, fed_wires, same_domain, domains_of, two_domains, is_bad, is_safe}
 use Rattle.upset_laws.proofs.Plain.{hit_from, hit_to, short_from, short_to, not_is, not_to}
 use Rattle.upset_laws.proofs.Roots.{roots_domains}
 
@@ -38,10 +39,10 @@ module _ (device : Device) (k : Configured) (p : IsPlain device k) where
   links_below : ℕ → List ℕ
   links_below o = below (links_of k.graph k.image) o
 
-  as_fed : Source → Fed
+  as_fed : Source → FedWires
   as_fed s = record { domain = s.domain; wires = below (links_of k.graph k.image) s.out }
 
-  domain_from : (f : Fed) (w : ℕ) → In (fed_wires k) f → has f.wires w ≡ true → HasDomain (circuit_of k) w f.domain
+  domain_from : (f : FedWires) (w : ℕ) → In (fed_wires k) f → has f.wires w ≡ true → HasDomain (circuit_of k) w f.domain
   unfolding as_fed
   domain_from f w i h =
       let r = of_map as_fed (sources k.cells) f i in
@@ -49,7 +50,7 @@ module _ (device : Device) (k : Configured) (p : IsPlain device k) where
       let feeds : Feeds (routing_of k.graph k.image) r.0.out w = record { output = p.outputs r.0 r.1.0; reach = below_sound (links_of k.graph k.image) r.0.out w there } in
       record { source = r.0; listed = r.1.0; feeds = feeds; only = λ o g. one_feed (routing_of k.graph k.image) p.clean o r.0.out w g feeds; domain = ap (λ x. x.domain) r.1.1 }
 
-  domain_to : (w : ℕ) (d : Domain) → HasDomain (circuit_of k) w d → (f : Fed) × (In (fed_wires k) f × ((has f.wires w ≡ true) × (f.domain ≡ d)))
+  domain_to : (w : ℕ) (d : Domain) → HasDomain (circuit_of k) w d → (f : FedWires) × (In (fed_wires k) f × ((has f.wires w ≡ true) × (f.domain ≡ d)))
   unfolding as_fed
   domain_to w d h = (
     as_fed h.source,

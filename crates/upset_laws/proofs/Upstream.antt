@@ -2,12 +2,12 @@
 -- counting links turned round.
 use Rattle.std.proofs.Common.{◌≡◌, ℕ, ◌↔◌, List, [], map, ap, subst}
 use Rattle.words.specs.Members.{In}
+use Rattle.words.proofs.Decided.{Decided, decided_by, chosen}
 use Rattle.links.specs.Links.{Link, Routing, Drives, Fed, Counting, Upstream}
 use Rattle.links.proofs.Members.{in_map, of_map}
 use Rattle.links.proofs.Walks.{reaches_by}
 use Rattle.links.proofs.Below.{is_below}
 use Rattle.links.proofs.Feeds.{is_fed}
-use Rattle.upset_laws.proofs.Decided.{Decided, decided_by, chosen}
 
 abbrev turned : Link → Link
 turned l = record { source = l.sink; sink = l.source }

@@ -5,7 +5,7 @@ use Rattle.std.specs.List.{list_any, list_all}
 use Rattle.words.specs.Members.{In}
 use Rattle.patterns.specs.Bits.{Bits}
 use Rattle.records.specs.Side.{Domain, D0, D1, D2}
-use Rattle.links.proofs.Below.{below, has}
+use Rattle.links.specs.Below.{below, has}
 use Rattle.fabric.specs.Graph.{GraphArc, Graph}
 use Rattle.fabric.specs.Links.{links_of, is_chosen}
 use Rattle.fabric.specs.MuxBits.{bits_named, mux_bits}
@@ -53,11 +53,11 @@ abbrev pub short_sources : Configured → Bits → List ℕ
 short_sources k flips = flat_map (sources_after k flips) (filter (is_joined k flips) (hit_wires k flips))
 
 -- the wires that a modelled output feeds, with its domain
-pub record Fed : Type 0 where
+pub record FedWires : Type 0 where
   pub domain : Domain
   pub wires : List ℕ
 
-abbrev pub fed_wires : Configured → List Fed
+abbrev pub fed_wires : Configured → List FedWires
 fed_wires k = let links = links_of k.graph k.image in map (λ s. record { domain = s.domain; wires = below links s.out }) (sources k.cells)
 
 abbrev pub same_domain : Domain → Domain → Bool
@@ -67,7 +67,7 @@ same_domain D2 D2 = true
 same_domain _ _ = false
 
 -- the domains of the flips, with those of the wires given
-abbrev pub domains_of : Configured → List Fed → Bits → List Domain
+abbrev pub domains_of : Configured → List FedWires → Bits → List Domain
 domains_of k fed flips =
     let roots = hit_wires k flips ++ short_sources k flips in
     map (λ f. f.domain) (filter (λ f. list_any (has f.wires) roots) fed)

@@ -3,24 +3,22 @@
 
 ghost use Rattle.circuit.specs.Faults.{no_fault, Fault, WithinOneDomain};
 ghost use Rattle.circuit.specs.Right.{RightOutside, TwoAreRight};
-ghost use Rattle.circuit.specs.Runs.{IsRun};
-ghost use Rattle.circuit.specs.Triples.{PartTriple};
-ghost use Rattle.circuit.specs.Triplicated.{IsTriplicated};
-ghost use Rattle.circuit.specs.WellFormed.{IsWellFormed};
+ghost use Rattle.circuit.specs.Runs.{Course, IsRunOf};
 ghost use Rattle.circuit.specs.Worlds.{World};
 ghost use Rattle.fabric.specs.Device.{Device};
 ghost use Rattle.fabric.specs.GraphOf.{IsGraph};
 ghost use Rattle.fabric.specs.Links.{routing_of};
 ghost use Rattle.links.specs.Links.{Fed, IsClean};
 ghost use Rattle.patterns.specs.Bits.{Bits, DeviceBit};
-ghost use Rattle.records.specs.Side.{Domain, Triple};
-ghost use Rattle.std.specs.Prelude.{false, true, Bool, ℕ, ◌≡◌, ◌↔◌};
+ghost use Rattle.records.specs.Side.{Domain};
+ghost use Rattle.std.specs.Prelude.{false, true, ℕ, ◌≡◌, ◌↔◌};
 ghost use Rattle.upset.specs.Configured.{circuit_of, Configured};
 ghost use Rattle.upset.specs.Effect.{IsDisturbed, IsEffect, IsHit, IsShortSource};
 ghost use Rattle.upset.specs.Roots.{IsRoot, RootsHave};
 ghost use Rattle.upset.specs.Safe.{FlipsHave, IsBad, IsMuxFault, IsSafe};
 ghost use Rattle.upset_laws.specs.PlainUpset.{OutputsListed, domains_of, fed_wires, hit_wires, is_bad, is_safe, short_sources};
 ghost use Rattle.words.specs.Members.{In};
+ghost use Rattle.circuit.specs.Sound.{IsSoundCircuit};
 
 /// In a clean image the domains of flips are those of the hit wires, of the sources of shorted wires and of the
 /// touched cells: the drivers further back add none.
@@ -42,8 +40,8 @@ pub fn effect_is_listed()
 /// Where no bit flips, the faulty runs are the undisturbed ones.
 pub fn no_flips_change_nothing()
     ensures { (k : Configured) (flips : Bits) → ((b : DeviceBit) → flips b ≡ false) → (f : Fault) → IsEffect k flips f
-        → (start : PartTriple → Bool) (input : ℕ → Triple → Bool) (n : ℕ) (run : ℕ → World)
-        → IsRun (circuit_of k) f start input n run ↔ IsRun (circuit_of k) no_fault start input n run }
+        → (course : Course) (run : ℕ → World)
+        → IsRunOf (circuit_of k) f course run ↔ IsRunOf (circuit_of k) no_fault course run }
 {}
 
 /// Flips that aren't bad make a fault of one domain at most.
@@ -55,14 +53,14 @@ pub fn flips_that_are_not_bad_have_one_domain()
 /// Masking, for any flips that aren't bad: there is one domain such that in every faulty run and every cycle each
 /// output pad outside it is right, so that at least two of each three are.
 pub fn flips_that_are_not_bad_are_masked()
-    ensures { (k : Configured) → IsClean (routing_of k.graph k.image) → IsWellFormed (circuit_of k) → IsTriplicated (circuit_of k)
+    ensures { (k : Configured) → IsSoundCircuit (circuit_of k)
         → (flips : Bits) (f : Fault) → IsEffect k flips f → (IsBad k flips → ⊥)
         → ((d : Domain) × RightOutside (circuit_of k) f d) × TwoAreRight (circuit_of k) f }
 {}
 
 /// Masking of every single routing-mux bit of a safe image.
 pub fn safe_image_masks_each_mux_bit()
-    ensures { (k : Configured) → IsClean (routing_of k.graph k.image) → IsWellFormed (circuit_of k) → IsTriplicated (circuit_of k) → IsSafe k
+    ensures { (k : Configured) → IsSoundCircuit (circuit_of k) → IsSafe k
         → (f : Fault) → IsMuxFault k f
         → ((d : Domain) × RightOutside (circuit_of k) f d) × TwoAreRight (circuit_of k) f }
 {}

@@ -6,11 +6,13 @@ use Rattle.std.proofs.lemmas.Slice.Eq.{bytes_eq-Decides}
 use Rattle.std.proofs.lemmas.List.{map-append, length-map}
 use Rattle.std.proofs.lemmas.Option.{slice_get-map}
 use Rattle.words.specs.Members.{In}
+use Rattle.words.specs.Twice.{HasNoneTwice}
+use Rattle.records.specs.Limits.{most_wires}
 use Rattle.fabric.specs.Wires.{Wire, same_wire}
 use Rattle.fabric.specs.WireNames.{WireName, Named, Ignored}
 use Rattle.fabric_laws.proofs.Orders.{same_wire_is, same_wire_refl}
 use Rattle.fabric_laws.proofs.Numbered.{get_in}
-use Rattle.wire_names.specs.Kept.{CanBeKept, HasShortBase, EachOnce, number_of_name, with_name, most_wires}
+use Rattle.wire_names.specs.Kept.{CanBeKept, HasShortBase, number_of_name, with_name}
 use Rattle.wire_names.specs.Codes.{code_of, wire_of, IsCodeOf, IsCodeOfName, IsKept, AreKept}
 use Rattle.wire_names.proofs.Places.{same_test, same_place, no_place, none_at}
 
@@ -51,7 +53,7 @@ in_front : {X : Type 0} (xs : List X) (x y : X) → In (xs ++ y ∷ []) x → (x
 in_front [] x y i other = elim i [ inl e ↦ absurd (other (sym e)) | inr j ↦ absurd j ]
 in_front (z ∷ zs) x y i other = elim i [ inl e ↦ inl e | inr j ↦ inr (in_front zs x y j other) ]
 
-once_more : {X : Type 0} (xs : List X) (y : X) → EachOnce xs → (In xs y → ⊥) → EachOnce (xs ++ y ∷ [])
+once_more : {X : Type 0} (xs : List X) (y : X) → HasNoneTwice xs → (In xs y → ⊥) → HasNoneTwice (xs ++ y ∷ [])
 once_more [] y once new = ((λ i. i), tt)
 once_more (x ∷ xs) y once new =
     ((λ i. once.0 (in_front xs x y i (λ e. new (inl e)))), once_more xs y once.1 (λ i. new (inr i)))
@@ -61,7 +63,7 @@ pub one_more_kept : (name : WireName) (code : List ℕ) (codes : List (List ℕ)
     → position (pointwise nat_eq code) codes ≡ None → length codes ≢ most_wires → AreKept (codes ++ code ∷ [])
 one_more_kept (Named wire) code codes kept is short new room = record {
   kept = in_cases IsKept codes code kept.kept (record { coded = is.coded ∙ ap code_of (sym is.decoded); short = subst HasShortBase (sym is.decoded) short });
-  once = subst EachOnce (sym (map-append wire_of codes (code ∷ [])))
+  once = subst HasNoneTwice (sym (map-append wire_of codes (code ∷ [])))
       (once_more (map wire_of codes) (wire_of code) kept.once
       (λ i. none_at (same_wire wire) (map wire_of codes) (sym (place_is_number (Named wire) code codes kept is) ∙ new) (wire_of code) i
       (subst (λ w. same_wire wire w ≡ true) (sym is.decoded) (same_wire_refl wire))));

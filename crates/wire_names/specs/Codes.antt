@@ -3,9 +3,11 @@
 use Rattle.std.specs.Prelude.{◌≡◌, ◌≤◌, ◌==◌, ℕ, ℤ, List, [], ◌∷◌, ◌++◌, length, take, drop, map, if◌then◌else◌}
 use Rattle.std.specs.Int.{w32, to_le_bytes, from_le_bytes, cast_signed, cast_unsigned}
 use Rattle.words.specs.Members.{In}
+use Rattle.words.specs.Twice.{HasNoneTwice}
+use Rattle.records.specs.Limits.{most_wires}
 use Rattle.fabric.specs.Wires.{Wire, Local, Wide}
 use Rattle.fabric.specs.WireNames.{WireName, Named, Ignored}
-use Rattle.wire_names.specs.Kept.{HasShortBase, EachOnce, most_wires}
+use Rattle.wire_names.specs.Kept.{HasShortBase}
 
 unfoldable pub bytes_of : ℤ → List ℕ
 bytes_of z = to_le_bytes w32 (cast_unsigned w32 z)
@@ -41,5 +43,5 @@ pub record IsKept (code : List ℕ) : Type 0 where
 -- the codes of wires that are kept under their places
 pub record AreKept (codes : List (List ℕ)) : Type 0 where
   pub kept : (code : List ℕ) → In codes code → IsKept code
-  pub once : EachOnce (map wire_of codes)
+  pub once : HasNoneTwice (map wire_of codes)
   pub few : length codes ≤ most_wires

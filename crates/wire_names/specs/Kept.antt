@@ -4,7 +4,6 @@ use Rattle.std.specs.Prelude.{◌<◌, ◌≤◌, ℕ, List, [], ◌∷◌, ◌+
 use Rattle.fabric.specs.Wires.{Wire, Local, Wide}
 use Rattle.fabric.specs.WireNames.{WireName, Named, Ignored}
 use Rattle.fabric.specs.GraphOf.{number_of}
-use Rattle.words.specs.Members.{In}
 
 abbrev pub base_of : Wire → List ℕ
 base_of (Local row column base) = base
@@ -33,12 +32,3 @@ number_of_name wires Ignored = None
 abbrev pub with_name : List Wire → WireName → List Wire
 with_name wires (Named wire) = wires ++ wire ∷ []
 with_name wires Ignored = wires
-
--- each element stands once
-abbrev pub EachOnce : {X : Type 0} → List X → Type 0
-EachOnce [] = Unit {0}
-EachOnce (x ∷ xs) = (In xs x → ⊥) × EachOnce xs
-
--- the most wires that are kept
-abbrev pub most_wires : ℕ
-most_wires = 16777216

@@ -2,7 +2,7 @@
 
 ghost use Rattle.std.specs.Prelude.{◌≡◌, ◌≤◌, ◌≤ℤ◌, pos, negsuc, neg_ℤ, [], ◌∷◌, MatchOption, None, Some, length, drop, take_while, if◌then◌else◌};
 ghost use Rattle.texts.specs.Numbers.{is_digit, number_up_to};
-ghost use Rattle.fabric.specs.WireNames.{most_distance};
+ghost use Rattle.records.specs.Limits.{most_distance};
 
 use text_cut::decimal;
 

@@ -55,6 +55,8 @@ pub struct Names {
 
 impl Model for Names {
     ghost use Rattle.std.specs.Prelude.{List, map};
+    ghost use Rattle.words.specs.Twice.{HasNoneTwice};
+    ghost use Rattle.records.specs.Limits.{most_wires};
     ghost use Rattle.fabric.specs.Wires.{Wire};
     ghost use Rattle.wire_names.specs.Codes.{wire_of, AreKept};
 
@@ -67,7 +69,7 @@ impl Model for Names {
 
 impl Names {
     ghost use Rattle.fabric.specs.WireNames.{Named};
-    ghost use Rattle.wire_names.specs.Kept.{CanBeKept, EachOnce, number_of_name, with_name, most_wires};
+    ghost use Rattle.wire_names.specs.Kept.{CanBeKept, number_of_name, with_name};
     ghost use Rattle.wire_names.specs.LentNames.{wire_name};
 
     /// No wires; takes no memory yet.
@@ -105,7 +107,7 @@ impl Names {
     /// The number of a wire; `None` exactly where it wasn't interned. Takes no memory.
     pub fn find(&self, w: &WireName<'_>) -> Option<WireId>
         ensures number { result ≡ number_of_name self.now (wire_name w.now) }
-        ensures once { EachOnce self.now }
+        ensures once { HasNoneTwice self.now }
     {
         let codes = &self.codes;
         let code = code_of(w)?;

@@ -1,5 +1,5 @@
 -- The first element of a list that has a fault, each element being judged with all those before it.
-use Rattle.std.specs.Prelude.{◌≡◌, List, [], ◌∷◌, ◌++◌, Option, Some, None}
+use Rattle.std.specs.Prelude.{◌≡◌, List, [], ◌∷◌, ◌++◌, Option, Some, None, Result, Ok, Err}
 
 -- the first option that is there
 abbrev pub or_else : {E : Type 0} → Option E → Option E → Option E
@@ -14,6 +14,16 @@ first_fault_after fault before (x ∷ xs) = or_else (fault before x) (first_faul
 -- the fault of the first element of the list with one
 abbrev pub first_fault : {X E : Type 0} → (List X → X → Option E) → List X → Option E
 first_fault fault xs = first_fault_after fault [] xs
+
+-- a fault, or the value where there is none
+abbrev pub unless_fault : {X F : Type 0} → Option F → X → Result X F
+unless_fault None value = Ok value
+unless_fault (Some fault) value = Err fault
+
+-- a fault, or the result where there is none
+abbrev pub fault_or : {X F : Type 0} → Option F → Result X F → Result X F
+fault_or None result = result
+fault_or (Some fault) result = Err fault
 
 -- no element of the list has a fault, each judged with those before it
 abbrev pub Faultless : {X E : Type 0} → (List X → X → Option E) → List X → Type 0

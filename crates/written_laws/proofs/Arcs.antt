@@ -36,7 +36,7 @@ use Rattle.layout_laws.specs.MoreLines.{StandsForArc}
 use Rattle.layout_laws.proofs.Named.{own_line}
 use Rattle.layout_laws.proofs.Lines.{leads_to}
 use Rattle.cells_laws.proofs.Options.{then_from}
-use Rattle.named_laws.specs.DatabaseRead.{IsReadDevice}
+use Rattle.formed_laws.specs.DatabaseRead.{IsReadDevice}
 use Rattle.written_laws.specs.Writable.{TilePlace, SectionStands, IsWritable}
 use Rattle.written_laws.proofs.Faults.{place_of}
 use Rattle.written_laws.proofs.SectionNames.{arc_names}

@@ -4,13 +4,13 @@ use Rattle.std.specs.Prelude.{Ok, codes, if◌then◌else◌, ◌&&◌}
 use Rattle.std.specs.Str.{bytes_eq}
 use Rattle.std.proofs.lemmas.Bool.{and_parts}
 use Rattle.words.specs.Members.{In}
-use Rattle.words.specs.Firsts.{first_fault}
+use Rattle.words.specs.Firsts.{first_fault, unless_fault}
 use Rattle.texts.specs.Names.{is_name}
 use Rattle.records.specs.Database.{Arc, Mux, WordSetting, EnumOption, EnumSetting, TileDb}
 use Rattle.grammars.specs.Rows.{Row, rows_of}
-use Rattle.grammars.specs.BitsDb.{DbFault, some_if, arc_of, option_of, bits_of, Head, MuxHead, WordHead, EnumHead, FixedHead, mux_head, word_head, enum_head, fixed_head, head_of, Section, rows_up_to_head, section_before, sections_of, arcs_of, options_of, mux_of, word_of, enum_of, database_with, fault_of, unless_fault}
+use Rattle.grammars.specs.BitsDb.{DbFault, some_if, arc_of, option_of, bits_of, Head, MuxHead, WordHead, EnumHead, FixedHead, mux_head, word_head, enum_head, fixed_head, head_of, Section, rows_up_to_head, section_before, sections_of, arcs_of, options_of, mux_of, word_of, enum_of, database_with, fault_of}
 use Rattle.fabric_laws.proofs.Members.{in_filter_map_from}
-use Rattle.named_laws.specs.DatabaseRead.{IsReadDatabase}
+use Rattle.formed_laws.specs.DatabaseRead.{IsReadDatabase}
 
 -- sinks and sources, words, enums and values of a database are names
 pub record HasNames (db : TileDb) : Type 0 where

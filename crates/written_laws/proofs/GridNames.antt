@@ -6,20 +6,19 @@ use Rattle.std.proofs.lemmas.Bool.{ltb-false}
 use Rattle.serde_json.specs.Data.{Data}
 use Rattle.serde_json.specs.Find.{get, as_str}
 use Rattle.words.specs.Members.{In}
-use Rattle.words.specs.Firsts.{first_fault}
+use Rattle.words.specs.Firsts.{first_fault, unless_fault}
 use Rattle.texts.specs.Names.{is_name}
-use Rattle.records.specs.Limits.{Place, Tiles, Types}
+use Rattle.records.specs.Limits.{Place, Tiles, Types, most_tiles, most_types}
 use Rattle.records.specs.Grid.{Tile, Grid}
 use Rattle.records.specs.Profile.{Require, TableKind, RegisterKind, SliceKind}
-use Rattle.json_forms.specs.Faults.{FormFault, NotJson, BadShape, TooLarge}
+use Rattle.json_forms.specs.Faults.{FormFault, NotJson, BadShape, TooLarge, top_key}
 use Rattle.json_forms.specs.Options.{◌>>=◌}
-use Rattle.json_forms.specs.Results as results
 use Rattle.json_forms.specs.Each.{each_or_fault}
 use Rattle.json_forms.specs.Values.{Member, member_in, if_name, name_in, reading_of, object_in}
 use Rattle.json_forms.specs.Parts.{list_of}
 use Rattle.json_forms.specs.Places.{place_of}
 use Rattle.json_forms.specs.Tiles.{tile_number_in, tile_in, place_fits, tile_of}
-use Rattle.json_forms.specs.Grid.{most_tiles, most_types, type_count, count_fault, grid_with, grid_of_members, top_key}
+use Rattle.json_forms.specs.Grid.{type_count, count_fault, grid_with, grid_of_members}
 use Rattle.json_forms.specs.Kinds.{require_in, table_in, register_in, slice_in}
 use Rattle.fabric_laws.proofs.Members.{in_filter_map_from}
 use Rattle.cells_laws.proofs.Options.{then_from}
@@ -87,7 +86,7 @@ record GridNames (grid : Grid) : Type 0 where
 of_members : (ms : List Member) (grid : Grid) → grid_of_members ms ≡ Ok grid → GridNames grid
 unfolding grid_of_members
 of_members ms grid h =
-    let a = both (each_or_fault tile_of ms) (λ tiles. results.unless_fault (count_fault tiles) (grid_with tiles)) grid h in
+    let a = both (each_or_fault tile_of ms) (λ tiles. unless_fault (count_fault tiles) (grid_with tiles)) grid h in
     let b = no_fault (first_fault (λ before m. result_err (tile_of m)) ms) (filter_map (λ m. result_ok (tile_of m)) ms) a.0 a.1.0 in
     let c = no_fault (count_fault a.0) (grid_with a.0) grid a.1.1 in
     subst GridNames c.1 (record {

@@ -9,10 +9,10 @@ use Rattle.records.specs.Profile.{Join, SliceKind, PadKind, Profile}
 use Rattle.json_forms.specs.Results.{◌>>=◌}
 use Rattle.json_forms.specs.Values.{member_in, name_in, reading_of, object_in}
 use Rattle.json_forms.specs.Parts.{name_or_empty_in}
-use Rattle.json_forms.specs.Faults.{FormFault, NotJson, BadShape}
-use Rattle.json_forms.specs.Grid.{top_key}
+use Rattle.json_forms.specs.Faults.{FormFault, NotJson, BadShape, top_key}
 use Rattle.json_forms.specs.Kinds.{join_in, slice_in, pad_in}
-use Rattle.json_forms.specs.Profile.{any_form, list_read, slice_verdict, pad_verdict, profile_of_value}
+use Rattle.json_forms.specs.Profile.{slice_verdict, pad_verdict, profile_of_value}
+use Rattle.json_forms.specs.Lists.{any_form, list_read}
 use Rattle.formed_laws.specs.Readers.{IsReadProfile}
 use Rattle.formed_laws.proofs.Elements.{list_judged}
 use Rattle.formed_laws.proofs.Results.{both, same_value}

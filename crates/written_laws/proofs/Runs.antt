@@ -26,8 +26,8 @@ use Rattle.attempts.specs.Moves.{Move}
 use Rattle.attempts.specs.Wires.{pin_wire}
 use Rattle.attempts.specs.Attempts.{Event, Ending, Routed, NoRoute, Runs, completes, enough, comes_first, at_pad, no_site, moves, IsAnswer, ended, Ended}
 use Rattle.layout_laws.specs.Named.{NamesOnce}
+use Rattle.formed_laws.specs.DatabaseRead.{IsReadDevice}
 use Rattle.headline_laws.proofs.Paths.{arcs_usable}
-use Rattle.named_laws.specs.DatabaseRead.{IsReadDevice}
 use Rattle.written_laws.specs.Writable.{TilePlace, IsWritable}
 use Rattle.written_laws.proofs.Faults.{place_of}
 use Rattle.written_laws.proofs.Arcs.{arcs_writable}

@@ -11,9 +11,10 @@ use Rattle.texts.specs.Names.{is_name}
 use Rattle.records.specs.Grid.{Tile}
 use Rattle.records.specs.Database.{WordSetting, EnumSetting, EnumOption}
 use Rattle.records.specs.Config.{ArcLine, WordLine, EnumLine, TileText, Config}
+use Rattle.records.specs.Limits.{most_tiles}
 use Rattle.links.proofs.Members.{in_map, of_map}
 use Rattle.fabric.specs.Settings.{word_named, enum_named, option_of}
-use Rattle.fabric.specs.Device.{TypeDb, Device, database_of}
+use Rattle.fabric.specs.Device.{TypeDb, Device, database_at}
 use Rattle.fabric.specs.Graph.{GraphMux, GraphArc, Graph}
 use Rattle.fabric.specs.GraphOf.{settings_in, IsGraph}
 use Rattle.fabric.specs.Image.{mux_named, arc_named}
@@ -23,10 +24,9 @@ use Rattle.fabric_laws.proofs.Standing.{mux_stands, arc_stands}
 use Rattle.layout_laws.proofs.Named.{same_bytes}
 use Rattle.formed_laws.proofs.GridRead.{read_in_order}
 use Rattle.config_grammar.specs.ConfigLines.{ArcOf, EnumOf}
-use Rattle.config_grammar.specs.ConfigText.{most_sections}
 use Rattle.answers.specs.Refusals.{NoPlace, UnknownSink, UnknownSource, UnknownSetting, UnknownValue}
 use Rattle.design_checks.specs.LineChecks.{LineFault, fault_at, source_fault, arc_faults_in, arc_faults, word_length_faults, word_faults, option_faults, enum_faults}
-use Rattle.named_laws.specs.DatabaseRead.{IsReadDevice}
+use Rattle.formed_laws.specs.DatabaseRead.{IsReadDevice}
 use Rattle.text_laws.specs.SameButLines.{has_lines}
 use Rattle.text_laws.specs.Formed.{CanStand, IsFormedSection, IsFormedText}
 use Rattle.written_laws.specs.Writable.{TilePlace, SectionStands, IsWritable}
@@ -46,7 +46,7 @@ module _ (device : Device) (g : Graph) (is : IsGraph device g) (read : IsReadDev
   type_names (Some t) h = read_names t.db (read.types t (h t refl))
 
   -- the database of a tile declares names
-  names_at : (tile : Tile) → HasNames (database_of device.types tile)
+  names_at : (tile : Tile) → HasNames (database_at device.types tile)
   names_at tile = type_names (find (λ t. bytes_eq t.kind tile.kind) device.types) (λ t e. (find_from (λ (u : TypeDb). bytes_eq u.kind tile.kind) device.types t e).0)
 
   -- ---- arcs
@@ -120,7 +120,7 @@ module _ (device : Device) (g : Graph) (is : IsGraph device g) (read : IsReadDev
   }
 
   -- no more sections than tiles
-  few_sections : (c : Config) → IsWritable g c c → length (filter has_lines c.tiles) ≤ most_sections
+  few_sections : (c : Config) → IsWritable g c c → length (filter has_lines c.tiles) ≤ most_tiles
   few_sections c w =
       let names = map (λ (t : TileText). t.tile) c.tiles in
       let tiles = map (λ (t : Tile). t.name) device.grid.tiles in

@@ -8,12 +8,13 @@ use Rattle.std.proofs.lemmas.List.{length-map}
 use Rattle.std.proofs.lemmas.Slice.Eq.{bytes_eq-Decides}
 use Rattle.words.specs.Members.{In}
 use Rattle.words.specs.Firsts.{or_else, first_fault_after, first_fault}
+use Rattle.words.specs.Twice.{HasNoneTwice}
 use Rattle.texts.specs.Names.{is_name}
-use Rattle.records.specs.Limits.{Slices, Pads}
+use Rattle.records.specs.Limits.{Slices, Pads, most_slices, most_pads}
 use Rattle.records.specs.Profile.{SliceKind}
 use Rattle.records.specs.Side.{Domain, Placed, Triple, Voter, Side}
 use Rattle.json_forms.specs.Faults.{TooLarge}
-use Rattle.side_form.specs.Side.{OfForm, DuplicateName, UnknownName, Unpaired, WrongDomain, most_slices, most_pads, size_fault, same_site, cell_fault, names_of_triples, entry_fault, voter_fault, pad_triples, second_use, cell_names, first_outside, unknown_name, unpaired, same_domain, entries_of_triple, is_in_domain, first_elsewhere, wrong_domain, side_fault}
+use Rattle.side_form.specs.Side.{OfForm, DuplicateName, UnknownName, Unpaired, WrongDomain, size_fault, same_site, cell_fault, names_of_triples, entry_fault, voter_fault, pad_triples, second_use, cell_names, first_outside, unknown_name, unpaired, same_domain, entries_of_triple, is_in_domain, first_elsewhere, wrong_domain, side_fault}
 use Rattle.links.proofs.Members.{in_map, of_map}
 use Rattle.fabric.specs.Graph.{Graph}
 use Rattle.fabric_laws.proofs.Members.{any_from, is_false}
@@ -25,12 +26,11 @@ use Rattle.cells_laws.proofs.Options.{or_none, none_or}
 use Rattle.cells_laws.proofs.Sites.{site_stands}
 use Rattle.repair.specs.Layouts.{Layout, configured}
 use Rattle.attempts.specs.Jobs.{Job}
-use Rattle.formed_laws.specs.Twice.{HasNoneTwice}
 use Rattle.formed_laws.specs.SideRead.{site_of}
 use Rattle.formed_laws.proofs.Twice.{keys_apart}
+use Rattle.formed_laws.specs.DatabaseRead.{IsReadDevice}
 use Rattle.headline_laws.specs.Sound.{IsSoundJob}
 use Rattle.headline_laws.specs.Kept.{KeepsDesign}
-use Rattle.named_laws.specs.DatabaseRead.{IsReadDevice}
 use Rattle.text_laws.specs.Formed.{IsFormedCell, IsFormedTriple, IsFormedVoter, IsFormedSide}
 use Rattle.written_laws.proofs.GridNames.{tiles_named}
 use Rattle.written_laws.proofs.KindNames.{kinds_named}
@@ -133,8 +133,8 @@ module _ (job : Job) (sound : IsSoundJob job) (read : IsReadDevice job.device) (
   faultless h =
       subst (λ z. side_fault z ≡ None) its_parts
       (still_faultless side y.side.slices k.side.slices
-      (subst (λ (pads : List Placed). HasNoneTwice (map (λ (p : Placed). p.name) (y.side.slices ++ pads))) (sym k.pads) k.apart.names)
-      (subst (λ (pads : List Placed). HasNoneTwice (map site_of (y.side.slices ++ pads))) (sym k.pads) k.apart.sites) h)
+      (subst (λ (pads : List Placed). HasNoneTwice (map (λ (p : Placed). p.name) (y.side.slices ++ pads))) (sym k.side.pads) k.apart.names)
+      (subst (λ (pads : List Placed). HasNoneTwice (map site_of (y.side.slices ++ pads))) (sym k.side.pads) k.apart.sites) h)
 
   abbrev member : Placed → Member
   member p = record { name = p.name; domain = p.domain }
@@ -159,7 +159,7 @@ module _ (job : Job) (sound : IsSoundJob job) (read : IsReadDevice job.device) (
   pub kept_side_is_formed : IsFormedSide side → IsFormedSide y.side
   kept_side_is_formed formed = record {
     slices = formed_slice formed;
-    pads = subst (λ ps. (p : Placed) → In ps p → IsFormedCell p) k.pads formed.pads;
+    pads = subst (λ ps. (p : Placed) → In ps p → IsFormedCell p) k.side.pads formed.pads;
     triples = subst (λ ts. (t : Triple) → In ts t → IsFormedTriple t) k.side.triples formed.triples;
     inputs = subst (λ ts. (t : Triple) → In ts t → IsFormedTriple t) k.side.inputs formed.inputs;
     outputs = subst (λ ts. (t : Triple) → In ts t → IsFormedTriple t) k.side.outputs formed.outputs;

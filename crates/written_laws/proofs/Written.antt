@@ -37,8 +37,6 @@ use Rattle.headline_laws.specs.Sound.{IsSoundJob}
 use Rattle.headline_laws.specs.Kept.{KeepsDesign}
 use Rattle.headline_laws.proofs.Runs.{answer_keeps}
 use Rattle.headline_laws.proofs.Hardened.{written_triplicated, hardened_design_keeps_outputs}
-use Rattle.hardening_laws.proofs.Reading.{files_read}
-use Rattle.hardening_laws.proofs.Accepted.{accepted_sound_job}
 use Rattle.text_laws.specs.SameButLines.{SameButLines}
 use Rattle.text_laws.specs.Formed.{IsFormedSide, IsFormedText}
 use Rattle.text_laws.proofs.ReadFormed.{read_formed}
@@ -47,6 +45,8 @@ use Rattle.text_laws.proofs.SidePrinted.{side_formed, side_read_back}
 use Rattle.text_laws.proofs.SameWrites.{same_image, same_agreeing}
 use Rattle.text_laws.proofs.SameFaults.{not_refused}
 use Rattle.text_laws.proofs.SamePrint.{same_print}
+use Rattle.headline_laws.proofs.Reading.{files_read}
+use Rattle.headline_laws.proofs.Accepted.{accepted_sound_job}
 use Rattle.written_laws.specs.Writable.{IsWritable}
 use Rattle.written_laws.specs.Written.{MayBeHardened, IsReadAgain, WritesHardened}
 use Rattle.written_laws.proofs.Faults.{read_is_writable, none_refused}

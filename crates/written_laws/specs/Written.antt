@@ -1,5 +1,6 @@
 -- What is asked of a design whose hardened text is read again, and what a run of `harden` writes. (Our own.)
 use Rattle.std.specs.Prelude.{◌≡◌, ◌≤◌, ℕ, List, [], ◌∷◌, length, Some, None, Ok}
+use Rattle.records.specs.Limits.{most_config_bytes, most_json_bytes}
 use Rattle.fabric.specs.Graph.{Graph}
 use Rattle.fabric.specs.Image.{image_of}
 use Rattle.circuit.specs.Cells.{Cells}
@@ -7,7 +8,7 @@ use Rattle.config_grammar.specs.ConfigText.{configuration_of}
 use Rattle.config_grammar.specs.ConfigPrint.{config_text}
 use Rattle.side_form.specs.Side.{side_of}
 use Rattle.commands.specs.Commands.{Inputs, Hardening}
-use Rattle.design_files.specs.Names.{most_config_bytes, most_json_bytes, grid_name, database_name}
+use Rattle.design_files.specs.Names.{grid_name, database_name}
 use Rattle.design_files.specs.Parsed.{Files}
 use Rattle.design_files.specs.Designs.{Design}
 use Rattle.design_checks.specs.GraphChecks.{graph_size_refusal}
@@ -16,8 +17,8 @@ use Rattle.design_checks.specs.Checks.{Passes}
 use Rattle.design_checks.specs.DesignChecks.{configured_as, DesignRefused, IsAccepted}
 use Rattle.design_answers.specs.Outcomes.{job_of, Outcome, file}
 use Rattle.design_answers.specs.Headline.{Hardens, AreHardened}
+use Rattle.formed_laws.specs.DatabaseRead.{IsReadDevice}
 use Rattle.headline_laws.specs.Sound.{IsSoundJob}
-use Rattle.named_laws.specs.DatabaseRead.{IsReadDevice}
 use Rattle.text_laws.specs.Formed.{IsFormedText}
 
 -- The design is a sound job. Its device is read and its text is of the form that is read, its graph is within its limits,

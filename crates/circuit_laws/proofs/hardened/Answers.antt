@@ -3,6 +3,8 @@ use Rattle.circuit_laws.proofs.hardened.Goals as goal
 
 pub returns : goal.returns
 returns g = record {
-  outside = λ c e clean other formed well tri too same f within. kept_outside c e (record { clean = clean; formed = formed }) (record { clean = other; formed = well }) tri too same f within;
-  two = λ c e clean other formed well tri too same f within. kept_two c e (record { clean = clean; formed = formed }) (record { clean = other; formed = well }) tri too same f within;
+  outside = λ c e one other same f within.
+      kept_outside c e (record { clean = one.clean; formed = one.formed }) (record { clean = other.clean; formed = other.formed }) one.triplicated other.triplicated same f within;
+  two = λ c e one other same f within.
+      kept_two c e (record { clean = one.clean; formed = one.formed }) (record { clean = other.clean; formed = other.formed }) one.triplicated other.triplicated same f within;
 }

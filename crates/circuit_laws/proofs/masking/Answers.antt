@@ -2,4 +2,4 @@ use Rattle.circuit_laws.proofs.OutputsRight.{masked}
 use Rattle.circuit_laws.proofs.masking.Goals as goal
 
 pub returns : goal.returns
-returns g = λ c clean formed tri f within. masked c (record { clean = clean; formed = formed }) tri f within
+returns g = λ c s f within. masked c (record { clean = s.clean; formed = s.formed }) s.triplicated f within

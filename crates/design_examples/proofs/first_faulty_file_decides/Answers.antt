@@ -5,7 +5,8 @@ use Rattle.json_forms.specs.Values.{reading_of}
 use Rattle.json_forms.specs.Places.{place_of}
 use Rattle.json_forms.specs.Tiles.{tile_in, tile_of}
 use Rattle.json_forms.specs.Grid.{grid_of_members}
-use Rattle.json_forms.specs.Profile.{profile_of_value, elements_read}
+use Rattle.json_forms.specs.Profile.{profile_of_value}
+use Rattle.json_forms.specs.Lists.{elements_read}
 use Rattle.side_form.specs.Side.{side_in}
 use Rattle.design_files.specs.Designs.{design_of}
 use Rattle.design_examples.proofs.first_faulty_file_decides.Goals as goal

@@ -4,7 +4,7 @@ use Rattle.records.specs.Side.{D0}
 use Rattle.circuit.specs.Cells.{TableCell}
 use Rattle.circuit.specs.Parts.{Source, table_source}
 use Rattle.circuit.specs.Pins.{Pin, pin_at}
-use Rattle.circuit.specs.Circuits.{Circuit, Reads}
+use Rattle.circuit.specs.Circuits.{Circuit, IsReadBy}
 use Rattle.circuit_laws.proofs.Sound.{to_pin}
 use Rattle.circuit_examples.proofs.Feeding.{feeds_is}
 use Rattle.fabric.specs.Graph.{Graph}
@@ -41,7 +41,7 @@ table = table_source (buffer_at g (codes "w0") D0 3) 0 cell
 abbrev pin : Pin
 pin = pin_at table.part 0 (wire_at g 1 3 (codes "D"))
 
-reads_itself : Reads circuit table table
+reads_itself : IsReadBy circuit table table
 reads_itself = record {
   table = cell;
   is_table = refl;

@@ -5,7 +5,7 @@ use Rattle.upset_laws.proofs.Unflipped.{none_disturbed, none_touched}
 use Rattle.upset_laws.proofs.no_flips_change_nothing.Goals as goal
 
 pub returns : goal.returns
-returns g = λ k flips none f effect start input n run. (
-  run_under (circuit_of k) no_fault f (record { disturbed = λ w i. absurd (none_disturbed k flips none f effect w i); touched = λ name i. absurd (none_touched k flips none f effect name i) }) start input n run,
-  run_under (circuit_of k) f no_fault (record { disturbed = λ w i. absurd i; touched = λ name i. absurd i }) start input n run,
+returns g = λ k flips none f effect course run. (
+  run_under (circuit_of k) no_fault f (record { disturbed = λ w i. absurd (none_disturbed k flips none f effect w i); touched = λ name i. absurd (none_touched k flips none f effect name i) }) course.start course.input course.cycles run,
+  run_under (circuit_of k) f no_fault (record { disturbed = λ w i. absurd i; touched = λ name i. absurd i }) course.start course.input course.cycles run,
 )

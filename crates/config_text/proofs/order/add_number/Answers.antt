@@ -1,6 +1,6 @@
 use Rattle.std.proofs.Common.{◌∙◌, ap}
+use Rattle.words.specs.Ordered.{put_once}
 use Rattle.records.specs.Config.{ArcLine}
-use Rattle.config_grammar.specs.Ordered.{put_once}
 use Rattle.config_grammar.specs.ConfigText.{arc_key}
 use Rattle.config_text.specs.Entries.{arcs_at}
 use Rattle.config_text.proofs.Arcs.{one_more, sinks_stay}

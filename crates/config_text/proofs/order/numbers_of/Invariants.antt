@@ -1,5 +1,5 @@
 use Rattle.std.proofs.Common.{◌≡◌, length}
-use Rattle.config_grammar.specs.Ordered.{in_order_once}
+use Rattle.words.specs.Ordered.{in_order_once}
 use Rattle.config_grammar.specs.ConfigText.{arc_key}
 use Rattle.config_text.specs.Entries.{arcs_at, AreSinks}
 use Rattle.config_text.proofs.Arcs.{put_all}

@@ -1,7 +1,7 @@
 use Rattle.std.proofs.Common.{◌≡◌, ◌++◌, ◌∷◌, [], false, map, ap, sym, subst, ◌∙◌, append_assoc}
 use Rattle.std.proofs.lemmas.List.{append-nil}
+use Rattle.words.specs.Ordered.{put_in_order, in_order}
 use Rattle.records.specs.Config.{TileText}
-use Rattle.config_grammar.specs.Ordered.{put_in_order, in_order}
 use Rattle.config_grammar.specs.ConfigText.{has_tile, section_in_order}
 use Rattle.config_text.specs.Entries.{tile_entries}
 use Rattle.config_text.specs.Known.{NoTileTwice}

@@ -1,6 +1,6 @@
 use Rattle.std.proofs.Common.{◌≡◌, ◌++◌, List, length, map}
+use Rattle.words.specs.Ordered.{in_order}
 use Rattle.records.specs.Config.{TileText}
-use Rattle.config_grammar.specs.Ordered.{in_order}
 use Rattle.config_grammar.specs.ConfigText.{section_in_order}
 use Rattle.config_text.specs.Entries.{tile_entries}
 use Rattle.config_text.proofs.order.sections_by_tile.Given as goal

@@ -1,10 +1,10 @@
 use Rattle.std.proofs.Common.{◌≡◌, ◌<◌, ◌+◌, ℕ, List, length, get_or, Option, ap, ◌∙◌, subst, Bor}
 use Rattle.std.specs.Prelude.{option_to_list}
 use Rattle.std.proofs.lemmas.Result.{err_from_is_err_and}
+use Rattle.records.specs.Limits.{most_wires}
 use Rattle.fabric.specs.Wires.{Wire}
 use Rattle.fabric.specs.TileWires.{named_wire}
 use Rattle.fabric.specs.WireOfName.{wire_of_name}
-use Rattle.wire_names.specs.Kept.{most_wires}
 use Rattle.wire_names.specs.LentNames.{wire_name}
 use Rattle.device_wires.specs.Gathered.{gathered}
 use Rattle.device_wires.proofs.SoFar.{many_names, name_more}

@@ -1,10 +1,10 @@
 use Rattle.std.proofs.Common.{◌≡◌, ◌<◌, ℕ, List, length, filter_map, Option, Some, None, ap, ◌∙◌, sym, subst}
 use Rattle.std.proofs.lemmas.Result.{err_from_is_err_and}
 use Rattle.records.specs.Grid.{Tile}
+use Rattle.records.specs.Limits.{most_wires}
 use Rattle.fabric.specs.Wires.{Wire}
 use Rattle.fabric.specs.TileWires.{named_wire}
 use Rattle.fabric.specs.WireOfName.{wire_of_name}
-use Rattle.wire_names.specs.Kept.{most_wires}
 use Rattle.device_wires.specs.Gathered.{gathered}
 use Rattle.device_wires.proofs.SameNames.{no_wires, wires_at_place}
 use Rattle.device_wires.proofs.gather.add_names.Goals as goal

@@ -2,8 +2,8 @@ use Rattle.std.proofs.Common.{◌≡◌, ◌<◌, length, ap, ◌∙◌, subst}
 use Rattle.std.proofs.lemmas.Result.{err_from_is_err_and}
 use Rattle.records.specs.Grid.{Tile}
 use Rattle.records.specs.Profile.{Profile}
+use Rattle.records.specs.Limits.{most_wires}
 use Rattle.fabric.specs.Device.{Device}
-use Rattle.wire_names.specs.Kept.{most_wires}
 use Rattle.device_wires.specs.Gathered.{gathered}
 use Rattle.device_wires.proofs.SameNames.{known_names, their_wires}
 use Rattle.device_wires.proofs.gather.add_tile.Goals as goal

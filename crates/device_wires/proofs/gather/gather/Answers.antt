@@ -2,9 +2,9 @@ use Rattle.std.proofs.Common.{◌≡◌, ◌<◌, ◌+◌, [], length, ap, ◌�
 use Rattle.std.specs.Prelude.{flat_map}
 use Rattle.std.proofs.lemmas.Result.{err_from_is_err_and}
 use Rattle.records.specs.Grid.{Grid}
+use Rattle.records.specs.Limits.{most_wires}
 use Rattle.fabric.specs.Device.{Device}
 use Rattle.fabric.specs.TileWires.{tile_wires}
-use Rattle.wire_names.specs.Kept.{most_wires}
 use Rattle.device_wires.specs.Gathered.{gathered}
 use Rattle.device_wires.proofs.SoFar.{many_tiles, same_error, tile_more}
 use Rattle.device_wires.specs.declared.errors.WiresError.TheVariants.{TooMany}

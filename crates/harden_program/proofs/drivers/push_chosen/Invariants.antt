@@ -1,6 +1,6 @@
 use Rattle.std.proofs.Common.{◌≡◌, ◌++◌, ◌||◌, drop}
 use Rattle.patterns.specs.Bits.{bits_of_list}
-use Rattle.answers.specs.Texts.{spaced}
+use Rattle.texts.specs.Printing.{spaced}
 use Rattle.harden_program.specs.Longest.{sources_of, has_any}
 use Rattle.harden_program.proofs.drivers.push_chosen.Given as goal
 

@@ -1,7 +1,7 @@
 use Rattle.std.proofs.Common.{◌++◌, List, ℕ, ap, ◌∙◌}
 use Rattle.records.specs.Database.{Arc, Mux}
 use Rattle.patterns.specs.Bits.{bits_of_list}
-use Rattle.answers.specs.Texts.{spaced, line_feed}
+use Rattle.texts.specs.Printing.{spaced, line_feed}
 use Rattle.answers.specs.Drivers.{no_origin, or_dash, driver_line}
 use Rattle.harden_program.specs.Longest.{longest_fit, sources_of}
 use Rattle.harden_program.proofs.Chosen.{line_pushed}

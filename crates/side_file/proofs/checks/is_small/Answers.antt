@@ -1,5 +1,5 @@
 use Rattle.std.proofs.Common.{ap}
-use Rattle.json_forms.specs.Results.{unless_fault}
+use Rattle.words.specs.Firsts.{unless_fault}
 use Rattle.side_file.proofs.checks.is_small.Goals as goal
 
 pub returns-in-Some : goal.returns-in-Some

@@ -2,7 +2,7 @@
 use Rattle.std.proofs.Common.{codes, refl}
 use Rattle.std.proofs.lemmas.Result.{err_from_is_err_and}
 use Rattle.serde_json.specs.View.{view}
-use Rattle.json_forms.specs.Profile.{list_read, any_form}
+use Rattle.json_forms.specs.Lists.{list_read, any_form}
 use Rattle.side_form.specs.Placings.{placed_in, names_in, voter_in}
 use Rattle.side_form.specs.Side.{side_in, clocks_read}
 use Rattle.side_file.proofs.InTurn.{fails_at_once, fails_later, reads_then}

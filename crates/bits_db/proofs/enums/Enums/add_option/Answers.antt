@@ -1,7 +1,8 @@
 use Rattle.std.proofs.Common.{◌≡◌, ◌∷◌, ◌++◌, [], List, true, false, Ok, Some, length, nat_lt, refl, sym, ap, ◌∙◌, arith}
 use Rattle.std.proofs.lemmas.Bool.Decides.{nat_tests}
 use Rattle.records.specs.Database.{EnumOption, EnumSetting}
-use Rattle.grammars.specs.BitsDb.{most_bits, has_enum, has_value}
+use Rattle.records.specs.Limits.{most_pattern_bits}
+use Rattle.grammars.specs.BitsDb.{has_enum, has_value}
 use Rattle.grammars.specs.RowByRow.{with_option}
 use Rattle.grammars.proofs.Lasts.{with_last_pushed}
 use Rattle.bits_db.specs.Known.{last_options}
@@ -16,7 +17,7 @@ returns-then-len-gt-MOST_BITS-clause-enums c =
     let bits : length c.option.inside.bits ≡ length c.args.option.bits = ap (λ (o : EnumOption). length o.bits) c.option.view_is in
     let many = c.if-len-gt-MOST_BITS.true in
     let counted = c.len.ensures in
-    let long : nat_lt most_bits (length c.args.option.bits) ≡ true = grind (arith, nat_tests) in
+    let long : nat_lt most_pattern_bits (length c.args.option.bits) ≡ true = grind (arith, nat_tests) in
     long_option c.args.number c.args.self.now.enums c.pop.new.self c.in-Some.setting c.args.option _ c.in-Some.ensures has long
 
 pub returns-clause-known : goal.returns-clause-known
@@ -59,5 +60,5 @@ returns-clause-enums c =
     let bits : length c.option.inside.bits ≡ length option.bits = ap (λ (o : EnumOption). length o.bits) c.option.view_is in
     let few = c.if-len-gt-MOST_BITS.false in
     let counted = c.len.ensures in
-    let short : nat_lt most_bits (length option.bits) ≡ false = grind (arith, nat_tests) in
+    let short : nat_lt most_pattern_bits (length option.bits) ≡ false = grind (arith, nat_tests) in
     new_option c.args.number c.args.self.now.enums front setting option (with_option c.args.self.now.enums (Some option)) split has short ∙ ap (λ (es : List EnumSetting). Ok es) all

@@ -1,7 +1,8 @@
 use Rattle.std.proofs.Common.{◌≡◌, ◌∷◌, ◌++◌, [], List, true, false, Ok, Some, length, nat_lt, refl, sym, ap, ◌∙◌, arith}
 use Rattle.std.proofs.lemmas.Bool.Decides.{nat_tests}
 use Rattle.records.specs.Database.{Arc, Mux}
-use Rattle.grammars.specs.BitsDb.{most_bits, has_sink, has_source}
+use Rattle.records.specs.Limits.{most_pattern_bits}
+use Rattle.grammars.specs.BitsDb.{has_sink, has_source}
 use Rattle.grammars.specs.RowByRow.{with_arc}
 use Rattle.grammars.proofs.Lasts.{with_last_pushed}
 use Rattle.bits_db.specs.Known.{last_arcs}
@@ -16,7 +17,7 @@ returns-then-len-gt-MOST_BITS-clause-muxes c =
     let bits : length c.arc.inside.bits ≡ length c.args.arc.bits = ap (λ (a : Arc). length a.bits) c.arc.view_is in
     let many = c.if-len-gt-MOST_BITS.true in
     let counted = c.len.ensures in
-    let long : nat_lt most_bits (length c.args.arc.bits) ≡ true = grind (arith, nat_tests) in
+    let long : nat_lt most_pattern_bits (length c.args.arc.bits) ≡ true = grind (arith, nat_tests) in
     long_arc c.args.number c.args.self.now.muxes c.pop.new.self c.in-Some.mux c.args.arc _ c.in-Some.ensures has long
 
 pub returns-clause-known : goal.returns-clause-known
@@ -59,5 +60,5 @@ returns-clause-muxes c =
     let bits : length c.arc.inside.bits ≡ length arc.bits = ap (λ (a : Arc). length a.bits) c.arc.view_is in
     let few = c.if-len-gt-MOST_BITS.false in
     let counted = c.len.ensures in
-    let short : nat_lt most_bits (length arc.bits) ≡ false = grind (arith, nat_tests) in
+    let short : nat_lt most_pattern_bits (length arc.bits) ≡ false = grind (arith, nat_tests) in
     new_arc c.args.number c.args.self.now.muxes front mux arc (with_arc c.args.self.now.muxes (Some arc)) split has short ∙ ap (λ (ms : List Mux). Ok ms) all

@@ -2,7 +2,7 @@ use Rattle.std.proofs.Common.{◌≡◌, ◌∷◌, ◌++◌, [], List, false, O
 use Rattle.std.proofs.lemmas.Bool.Decides.{nat_tests}
 use Rattle.patterns.specs.Bits.{PatternBit}
 use Rattle.records.specs.Database.{WordSetting}
-use Rattle.grammars.specs.BitsDb.{most_bits}
+use Rattle.records.specs.Limits.{most_pattern_bits}
 use Rattle.grammars.specs.RowByRow.{with_bits}
 use Rattle.grammars.proofs.Lasts.{with_last_pushed}
 use Rattle.bits_db.proofs.Entries.{new_bits, last_is_there}
@@ -24,7 +24,7 @@ returns-clause-words c =
     let length_of : length c.bits.inside.bits.items ≡ length bits = ap (λ (b : List PatternBit). length b) c.bits.view_is in
     let few = c.if-len-gt-MOST_BITS.false in
     let counted = c.len.ensures in
-    let short : nat_lt most_bits (length bits) ≡ false = grind (arith, nat_tests) in
+    let short : nat_lt most_pattern_bits (length bits) ≡ false = grind (arith, nat_tests) in
     new_bits c.args.number c.args.self.now.settings _ bits (sym c.in-Some.is ∙ c.in_ok-bits.ensures) short ∙ ap (λ (ws : List WordSetting). Ok ws) all
 
 pub returns-clause-open : goal.returns-clause-open

@@ -1,7 +1,7 @@
 use Rattle.std.proofs.Common.{◌≡◌, ◌≢◌, ◌∙◌, sym, subst, map, length, ℕ, List, arith}
 use Rattle.std.proofs.lemmas.List.{length-map}
+use Rattle.records.specs.Limits.{most_wires}
 use Rattle.wire_names.specs.Codes.{IsCodeOfName, AreKept}
-use Rattle.wire_names.specs.Kept.{most_wires}
 use Rattle.wire_names.specs.LentNames.{wire_name}
 use Rattle.wire_names.proofs.Kept.{number_found, one_more_kept}
 use Rattle.wire_names.proofs.names.Names.intern.Goals as goal

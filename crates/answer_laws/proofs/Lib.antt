@@ -1,0 +1,11 @@
+pub mod Lists
+pub mod Lines
+pub mod Ripped
+pub mod Named
+pub mod Starts
+pub mod Outcomes
+pub mod Told
+pub mod Tests
+pub mod Candidates
+pub mod Runs
+pub mod BadPlaces

@@ -1,0 +1,4 @@
+pub mod KeyCounts
+pub mod Placed
+pub mod Cut
+pub mod Sorted

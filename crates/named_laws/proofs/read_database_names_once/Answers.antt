@@ -1,5 +1,0 @@
-use Rattle.named_laws.proofs.Names.{database_names_once}
-use Rattle.named_laws.proofs.read_database_names_once.Goals as goal
-
-pub returns : goal.returns
-returns c = database_names_once

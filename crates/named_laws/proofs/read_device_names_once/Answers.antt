@@ -1,5 +1,0 @@
-use Rattle.named_laws.proofs.Names.{device_names_once}
-use Rattle.named_laws.proofs.read_device_names_once.Goals as goal
-
-pub returns : goal.returns
-returns c = device_names_once

@@ -1,5 +1,0 @@
-use Rattle.plain_routes.proofs.Starts.{rest_law}
-use Rattle.plain_routes.proofs.rest_is_exact.Goals as goal
-
-pub returns : goal.returns
-returns c = λ device k graph clean outputs rip config. rest_law device k (record { graph = graph; clean = clean; outputs = outputs }) rip config
