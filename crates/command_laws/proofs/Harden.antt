@@ -8,12 +8,14 @@ use Rattle.words.specs.Members.{In}
 use Rattle.words.specs.Firsts.{first_fault, Faultless}
 use Rattle.words.proofs.Found.{none_found}
 use Rattle.commands.specs.Commands.{Command, Inputs, Hardening, Check, Analyse, Harden}
+use Rattle.patterns.specs.Bits.{DeviceBit}
+use Rattle.commands.specs.BitWords.{bit_words}
 use Rattle.commands.specs.Options.{Given, given_from, Kind, OutName, Allowed, allowed_named, is_given, is_out, has_value, is_out_value, is_bad_value, value_fault, named_fault, option_fault, lacks_one, value_given, rounds_of, number_within}
-use Rattle.commands.specs.Readings.{input_options, harden_options, without_fault, options_of, text_of, inputs_of, hardening_of, with_options, run_of, run_words, design_command}
+use Rattle.commands.specs.Readings.{input_options, harden_options, without_fault, options_of, text_of, inputs_of, hardening_of, with_options, run_of, run_words, drivers_with, drivers_words, command_words, is_among, reading_of}
 use Rattle.texts.specs.Numbers.{decimal_of}
 use Rattle.command_laws.specs.Given.{IsFitToHarden}
 use Rattle.command_laws.proofs.Found.{first_found, one_before, none_passes, other_fails}
-use Rattle.command_laws.proofs.Run.{within}
+use Rattle.command_laws.proofs.Run.{within, known_command}
 
 -- an out option as it is given: its value isn't that of an out option before it
 record Out (given : List Given) (name : List ℕ) : Type 0 where
@@ -170,26 +172,37 @@ run_no_harden : (words : List (List ℕ)) (inputs : Inputs) (h : Hardening) → 
 run_no_harden [] inputs h e = cc
 run_no_harden (word ∷ words) inputs h e = run_is_no_harden (number_within 1 2048 (decimal_of word)) words inputs h e
 
-chosen : {C : Type 0} (check analyse harden run : Bool) (a b c d : Result C ℕ) (x : C) → (if check then a else if analyse then b else if harden then c else if run then d else Err 1) ≡ Ok x
-    → (a ≡ Ok x → ⊥) → (b ≡ Ok x → ⊥) → (d ≡ Ok x → ⊥) → c ≡ Ok x
-chosen true _ _ _ a b c d x h p q r = absurd (p h)
-chosen false true _ _ a b c d x h p q r = absurd (q h)
-chosen false false true _ a b c d x h p q r = h
-chosen false false false true a b c d x h p q r = absurd (r h)
-chosen false false false false a b c d x h p q r = absurd (let no : ⊥ = cc in no)
+drivers_no_harden : (name : List ℕ) (r : Result (List DeviceBit) ℕ) (inputs : Inputs) (h : Hardening) → drivers_with name r ≡ Ok (Harden inputs h) → ⊥
+drivers_no_harden name (Ok bits) inputs h e = cc
+drivers_no_harden name (Err k) inputs h e = cc
+
+drivers_words_no_harden : (words : List (List ℕ)) (inputs : Inputs) (h : Hardening) → drivers_words words ≡ Ok (Harden inputs h) → ⊥
+drivers_words_no_harden [] inputs h e = cc
+drivers_words_no_harden (name ∷ words) inputs h e = drivers_no_harden name (bit_words 3 words) inputs h e
+
+chosen : {C : Type 0} (drivers check analyse harden run : Bool) (z a b c d : Result C ℕ) (x : C)
+    → (if drivers then z else if check then a else if analyse then b else if harden then c else if run then d else Err 1) ≡ Ok x
+    → (z ≡ Ok x → ⊥) → (a ≡ Ok x → ⊥) → (b ≡ Ok x → ⊥) → (d ≡ Ok x → ⊥) → c ≡ Ok x
+chosen true _ _ _ _ z a b c d x h w p q r = absurd (w h)
+chosen false true _ _ _ z a b c d x h w p q r = absurd (p h)
+chosen false false true _ _ z a b c d x h w p q r = absurd (q h)
+chosen false false false true _ z a b c d x h w p q r = h
+chosen false false false false true z a b c d x h w p q r = absurd (r h)
+chosen false false false false false z a b c d x h w p q r = absurd (let no : ⊥ = cc in no)
 
 made_fit : (words : List (List ℕ)) (r : Result (List Given) ℕ) → options_of harden_options words ≡ r → (inputs : Inputs) (h : Hardening)
     → with_options (λ given. Harden (inputs_of given) (hardening_of given)) r ≡ Ok (Harden inputs h) → IsFitToHarden h
 made_fit words (Ok given) e inputs h k = (let same : hardening_of given ≡ h = cc in subst IsFitToHarden same (options_fit words given e))
 made_fit words (Err n) e inputs h k = absurd (let no : ⊥ = cc in no)
 
-pub harden_fits : (words : List (List ℕ)) (inputs : Inputs) (h : Hardening) → design_command words ≡ Ok (Harden inputs h) → IsFitToHarden h
-harden_fits [] inputs h e = absurd (let no : ⊥ = cc in no)
-harden_fits (name ∷ words) inputs h e =
+pub harden_fits : (known words : List (List ℕ)) (inputs : Inputs) (h : Hardening) → reading_of known words ≡ Ok (Harden inputs h) → IsFitToHarden h
+harden_fits known [] inputs h e = absurd (let no : ⊥ = cc in no)
+harden_fits known (name ∷ words) inputs h e =
     made_fit words (options_of harden_options words) refl inputs h
-    (chosen (bytes_eq name (codes "check")) (bytes_eq name (codes "analyse")) (bytes_eq name (codes "harden")) (bytes_eq name (codes "run"))
+    (chosen (bytes_eq name (codes "drivers")) (bytes_eq name (codes "check")) (bytes_eq name (codes "analyse")) (bytes_eq name (codes "harden")) (bytes_eq name (codes "run")) (drivers_words words)
     (with_options (λ given. Check (inputs_of given)) (options_of input_options words)) (with_options (λ given. Analyse (inputs_of given)) (options_of input_options words))
-    (with_options (λ given. Harden (inputs_of given) (hardening_of given)) (options_of harden_options words)) (run_words words) (Harden inputs h) e
+    (with_options (λ given. Harden (inputs_of given) (hardening_of given)) (options_of harden_options words)) (run_words words) (Harden inputs h)
+    (known_command (is_among known name) (command_words name words) (Harden inputs h) e) (drivers_words_no_harden words inputs h)
     (not_harden (λ given. Check (inputs_of given)) (λ g. tt) (options_of input_options words) inputs h)
     (not_harden (λ given. Analyse (inputs_of given)) (λ g. tt) (options_of input_options words) inputs h)
     (run_no_harden words inputs h))

@@ -5,8 +5,10 @@ use Rattle.std.proofs.lemmas.Bool.{leb-true}
 use Rattle.std.specs.Str.{bytes_eq}
 use Rattle.texts.specs.Numbers.{decimal_of}
 use Rattle.commands.specs.Commands.{Command, Check, Analyse, Harden, Run}
+use Rattle.patterns.specs.Bits.{DeviceBit}
+use Rattle.commands.specs.BitWords.{bit_words}
 use Rattle.commands.specs.Options.{Given, number_within}
-use Rattle.commands.specs.Readings.{input_options, harden_options, options_of, inputs_of, hardening_of, with_options, run_of, run_words, design_command}
+use Rattle.commands.specs.Readings.{input_options, harden_options, options_of, inputs_of, hardening_of, with_options, run_of, run_words, drivers_with, drivers_words, command_words, is_among, reading_of}
 
 both_true : (a b : Bool) → (a && b) ≡ true → (a ≡ true) × (b ≡ true)
 both_true true b h = (refl, h)
@@ -43,21 +45,37 @@ no_run : (make : List Given → Command) → ((given : List Given) → IsNoRun (
 no_run make h (Ok given) n e = (let same : make given ≡ Run n = cc in subst IsNoRun same (h given))
 no_run make h (Err k) n e = cc
 
-chosen : (check analyse harden run : Bool) (a b c d : Result Command ℕ) (n : ℕ) → (if check then a else if analyse then b else if harden then c else if run then d else Err 1) ≡ Ok (Run n)
-    → (a ≡ Ok (Run n) → ⊥) → (b ≡ Ok (Run n) → ⊥) → (c ≡ Ok (Run n) → ⊥) → d ≡ Ok (Run n)
-chosen true _ _ _ a b c d n h x y z = absurd (x h)
-chosen false true _ _ a b c d n h x y z = absurd (y h)
-chosen false false true _ a b c d n h x y z = absurd (z h)
-chosen false false false true a b c d n h x y z = h
-chosen false false false false a b c d n h x y z = absurd (let no : ⊥ = cc in no)
+chosen : (drivers check analyse harden run : Bool) (z a b c d : Result Command ℕ) (n : ℕ)
+    → (if drivers then z else if check then a else if analyse then b else if harden then c else if run then d else Err 1) ≡ Ok (Run n)
+    → (z ≡ Ok (Run n) → ⊥) → (a ≡ Ok (Run n) → ⊥) → (b ≡ Ok (Run n) → ⊥) → (c ≡ Ok (Run n) → ⊥) → d ≡ Ok (Run n)
+chosen true _ _ _ _ z a b c d n h w p q r = absurd (w h)
+chosen false true _ _ _ z a b c d n h w p q r = absurd (p h)
+chosen false false true _ _ z a b c d n h w p q r = absurd (q h)
+chosen false false false true _ z a b c d n h w p q r = absurd (r h)
+chosen false false false false true z a b c d n h w p q r = h
+chosen false false false false false z a b c d n h w p q r = absurd (let no : ⊥ = cc in no)
 
-pub run_fits : (words : List (List ℕ)) (n : ℕ) → design_command words ≡ Ok (Run n) → (1 ≤ n) × (n ≤ 2048)
-run_fits [] n h = absurd (let no : ⊥ = cc in no)
-run_fits (name ∷ words) n h =
+drivers_no_run : (name : List ℕ) (r : Result (List DeviceBit) ℕ) (n : ℕ) → drivers_with name r ≡ Ok (Run n) → ⊥
+drivers_no_run name (Ok bits) n e = cc
+drivers_no_run name (Err k) n e = cc
+
+drivers_words_no_run : (words : List (List ℕ)) (n : ℕ) → drivers_words words ≡ Ok (Run n) → ⊥
+drivers_words_no_run [] n e = cc
+drivers_words_no_run (name ∷ words) n e = drivers_no_run name (bit_words 3 words) n e
+
+-- a command that a program knows is that of its words
+pub known_command : {C : Type 0} (known : Bool) (r : Result C ℕ) (x : C) → (if known then r else Err 1) ≡ Ok x → r ≡ Ok x
+known_command true r x h = h
+known_command false r x h = absurd (let no : ⊥ = cc in no)
+
+pub run_fits : (known words : List (List ℕ)) (n : ℕ) → reading_of known words ≡ Ok (Run n) → (1 ≤ n) × (n ≤ 2048)
+run_fits known [] n h = absurd (let no : ⊥ = cc in no)
+run_fits known (name ∷ words) n h =
     run_within words n
-    (chosen (bytes_eq name (codes "check")) (bytes_eq name (codes "analyse")) (bytes_eq name (codes "harden")) (bytes_eq name (codes "run"))
+    (chosen (bytes_eq name (codes "drivers")) (bytes_eq name (codes "check")) (bytes_eq name (codes "analyse")) (bytes_eq name (codes "harden")) (bytes_eq name (codes "run")) (drivers_words words)
     (with_options (λ given. Check (inputs_of given)) (options_of input_options words)) (with_options (λ given. Analyse (inputs_of given)) (options_of input_options words))
-    (with_options (λ given. Harden (inputs_of given) (hardening_of given)) (options_of harden_options words)) (run_words words) n h
+    (with_options (λ given. Harden (inputs_of given) (hardening_of given)) (options_of harden_options words)) (run_words words) n
+    (known_command (is_among known name) (command_words name words) (Run n) h) (drivers_words_no_run words n)
     (no_run (λ given. Check (inputs_of given)) (λ g. tt) (options_of input_options words) n)
     (no_run (λ given. Analyse (inputs_of given)) (λ g. tt) (options_of input_options words) n)
     (no_run (λ given. Harden (inputs_of given) (hardening_of given)) (λ g. tt) (options_of harden_options words) n))

@@ -1,5 +1,5 @@
 -- The attempts that are blocked at the first place.
-use Rattle.std.proofs.Common.{◌≡◌, true, [], ◌∷◌, inl, inr, refl, arith}
+use Rattle.std.proofs.Common.{[], ◌∷◌, inr, refl, arith}
 use Rattle.repair.specs.Layouts.{turn_over}
 use Rattle.repair.specs.Routes.{IsBlocked}
 use Rattle.repair.specs.Turns.{Turn}

@@ -1,5 +1,5 @@
 -- What the laws of plain tests ask of the layouts, and where the attempts start.
-use Rattle.std.proofs.Common.{◌≡◌, true, List, [], ◌∷◌, refl}
+use Rattle.std.proofs.Common.{◌≡◌, true, refl}
 use Rattle.std.specs.List.{list_all}
 use Rattle.links.proofs.Below.{in_has}
 use Rattle.links.specs.Below.{has}

@@ -1,5 +1,5 @@
 -- Where the second site is empty the slice moves there, and its connection gets the way of that site.
-use Rattle.std.proofs.Common.{◌≡◌, ◌≢◌, ℕ, true, inl, inr, List, [], ◌∷◌, refl, sym, ap, subst, ◌∙◌, codes, arith}
+use Rattle.std.proofs.Common.{◌≡◌, ◌≢◌, inl, inr, [], ◌∷◌, refl, sym, ap, subst, ◌∙◌, codes, arith}
 use Rattle.std.specs.declared.cmp.Ordering.TheVariants.{Greater}
 use Rattle.words.specs.Members.{In}
 use Rattle.records.specs.Side.{Placed}
@@ -8,7 +8,7 @@ use Rattle.fabric_laws.proofs.Agreeing.{agreeing}
 use Rattle.circuit.specs.Circuits.{Connection, IsConnection}
 use Rattle.upset.specs.Configured.{circuit_of}
 use Rattle.cells.specs.Resolved.{site_bits}
-use Rattle.repair.specs.Layouts.{configured, turn_over, with_path}
+use Rattle.repair.specs.Layouts.{configured, turn_over}
 use Rattle.repair.specs.Lines.{no_lines, no_texts, next_text}
 use Rattle.repair.specs.Routes.{IsTheRoute}
 use Rattle.repair.specs.Turns.{Turn}
@@ -18,8 +18,8 @@ use Rattle.attempts.specs.Turns.{Complete}
 use Rattle.attempts.specs.Attempts.{Attempt, after_step, AttemptBlocked, AttemptComplete, Moved, Routed, Ended, IsAnswer, ended, moves, completes}
 use Rattle.route_laws.specs.PlainPaths.{first_paths, weight_by}
 use Rattle.route_laws.proofs.Paths.{route_law}
-use Rattle.attempt_examples.proofs.Tests.{connections, listed_connects, connects_listed, modelled, clear, names_differ}
-use Rattle.end_examples.specs.Joined.{device, graph, placed, first_tile, second_tile, first_kind, second_kind}
+use Rattle.attempt_examples.proofs.Tests.{connections, connects_listed, modelled, clear, names_differ}
+use Rattle.end_examples.specs.Joined.{device, graph, placed, first_tile, second_tile, second_kind}
 use Rattle.end_examples.specs.Ends.{job_of, starts_with, net, pad_cut, slice_design, slice_rest, to_slice, old_site, new_site, moved, step, routed, way}
 use Rattle.end_examples.proofs.Conditions.{slice_starts, slice_safe, told_moved, moved_safe}
 use Rattle.end_examples.proofs.Blocked.{slice_attempt}

@@ -1,16 +1,15 @@
 -- The device has two sites for slices. Where both are taken a slice has no candidate.
-use Rattle.std.proofs.Common.{◌≡◌, ◌≢◌, ℕ, false, ◌⊎◌, inl, inr, List, [], ◌∷◌, Some, refl, sym, ap, ◌∙◌, codes, arith}
+use Rattle.std.proofs.Common.{◌≡◌, ℕ, false, inl, inr, List, [], ◌∷◌, Some, refl, sym, ap, ◌∙◌, codes, arith}
 use Rattle.std.specs.Str.{bytes_eq}
-use Rattle.words.specs.Members.{In}
 use Rattle.records.specs.Grid.{Tile}
 use Rattle.records.specs.Profile.{SliceKind}
-use Rattle.records.specs.Side.{D0, Placed}
+use Rattle.records.specs.Side.{D0}
 use Rattle.fabric_laws.proofs.Numbered.{get_in}
 use Rattle.cells.specs.Sites.{Site}
 use Rattle.cells.specs.Standing.{SliceStandsAt}
 use Rattle.cells_laws.proofs.Sites.{site_stands}
 use Rattle.attempts.specs.Jobs.{Job, State}
-use Rattle.attempts.specs.Candidates.{site_named, IsCandidate, HasNone, Step}
+use Rattle.attempts.specs.Candidates.{site_named, HasNone}
 use Rattle.attempts.specs.Attempts.{AttemptBlocked, EndSite, NoRoute, Ended, IsAnswer, ended, no_site}
 use Rattle.attempt_examples.proofs.Tests.{names_differ}
 use Rattle.end_examples.specs.Joined.{device, graph, placed, first_tile, second_tile, i_tile, j_tile, o_tile, first_kind, second_kind}

@@ -13,7 +13,7 @@ use Rattle.records.specs.Ripping.{RipAll}
 use Rattle.attempts.specs.Jobs.{Job, State}
 use Rattle.attempts.specs.Candidates.{Step}
 use Rattle.attempts.specs.Turns.{Cut}
-use Rattle.end_examples.specs.Joined.{device, graph, bit, from, line, text, word, config_with, placed, side_with, layout_at, first_tile, second_tile, first_kind, second_kind, o_tile}
+use Rattle.end_examples.specs.Joined.{device, from, line, text, word, config_with, placed, side_with, layout_at, first_tile, second_tile, first_kind, second_kind, o_tile}
 
 abbrev pub job_of : Layout → Job
 job_of design = record { device = device; design = design; rounds = 32; rip = RipAll }

@@ -20,6 +20,7 @@ use Rattle.upset.specs.Configured.{Configured}
 use Rattle.mini.specs.MiniA.{mini_a}
 use Rattle.mini.specs.Toggle.{crossed, toggle_side}
 use Rattle.mini.specs.ToggleCells.{toggle_cells}
+use Rattle.config_grammar.specs.ConfigText.{configuration_of}
 use Rattle.config_grammar.specs.ConfigPrint.{config_text}
 use Rattle.side_form.specs.SidePrint.{side_text}
 use Rattle.design_files.specs.Names.{grid_name, types_of}
@@ -89,3 +90,16 @@ crossed_accepted = (
           side = side_short crossed_files crossed_inputs.side texts.side_text toggle_side refl (leb-true (length texts.side_text) most_json_bytes refl) side_is;
           types = types_are;
         })
+
+-- the design that is accepted: its text as it is read, on MINI-A, with the toggle's side file
+pub accepted_text : configuration_of (config_text crossed) ≡ Ok crossed_accepted.0.config
+unfolding crossed_accepted
+accepted_text = read_again.text_read
+
+pub accepted_device : crossed_accepted.0.device ≡ mini_a
+unfolding crossed_accepted
+accepted_device = read_again.device
+
+pub accepted_side : crossed_accepted.0.side ≡ toggle_side
+unfolding crossed_accepted
+accepted_side = read_again.side_stays

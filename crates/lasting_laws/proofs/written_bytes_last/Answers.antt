@@ -4,6 +4,6 @@ use Rattle.lasting_laws.proofs.written_bytes_last.Goals as goal
 
 pub returns : goal.returns
 returns c = record {
-  moment = λ files inputs h design g cells accepted log y n answer a. bytes_last h design g cells (accepted_may_be_hardened files inputs h design g cells accepted) log y n answer a;
-  says = λ files inputs h design g cells accepted log y n answer a. bytes_say h design g cells (accepted_may_be_hardened files inputs h design g cells accepted) log y n answer a;
+  moment = λ files inputs a h y e w. bytes_last h a.design a.graph a.cells (accepted_may_be_hardened files inputs h a.design a.graph a.cells a.is) e.0 y e.1.0 e.1.1 w;
+  says = λ files inputs a h y e w. bytes_say h a.design a.graph a.cells (accepted_may_be_hardened files inputs h a.design a.graph a.cells a.is) e.0 y e.1.0 e.1.1 w;
 }

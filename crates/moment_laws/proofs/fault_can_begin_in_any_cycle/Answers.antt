@@ -9,6 +9,6 @@ still : World
 still = record { wire = λ w. Clock; part = λ p. false; pin = λ p. false; shown = λ n. Clock }
 
 pub returns : goal.returns
-returns g = λ c clean formed tri f t start input n.
-    (let ok : Sound c = record { clean = clean; formed = formed } in
-    (begun c ok tri f t start input (λ i. still), begun_is c ok tri f t start input (λ i. still) n))
+returns g = λ c s f t start input n.
+    (let ok : Sound c = record { clean = s.clean; formed = s.formed } in
+    (begun c ok s.triplicated f t start input (λ i. still), begun_is c ok s.triplicated f t start input (λ i. still) n))
