@@ -44,10 +44,10 @@ use Rattle.answer_laws.proofs.Lists.{IsOrderOf, ordered, least_or_none}
 use Rattle.answer_laws.proofs.Ripped as ripped
 use Rattle.answer_laws.proofs.Told.{told_member}
 
-bit_total : IsTotalOrder bit_cmp
+pub bit_total : IsTotalOrder bit_cmp
 bit_total = then_total (on_total (λ b. b.frame) nat_cmp_total) (on_total (λ b. b.bit) nat_cmp_total)
 
-bit_ties : (a b : DeviceBit) → bit_cmp a b ≡ Equal → b ≡ a
+pub bit_ties : (a b : DeviceBit) → bit_cmp a b ≡ Equal → b ≡ a
 bit_ties a b e =
     let frames = number_same a.frame b.frame (first_ties (nat_cmp a.frame b.frame) (nat_cmp a.bit b.bit) e) in
     let bits = number_same a.bit b.bit (second_ties (nat_cmp a.frame b.frame) (nat_cmp a.bit b.bit) e) in
