@@ -11,7 +11,7 @@ use Rattle.cells.specs.Sites.{Site, settings_at}
 use Rattle.cells.specs.Shapes.{equal_shape}
 use Rattle.attempts.specs.Moves.{Move}
 use Rattle.fabric_laws.proofs.Graphs.{some_same}
-use Rattle.upset_laws.proofs.Decided.{Decided, is_true, chosen}
+use Rattle.words.proofs.Decided.{Decided, is_true, chosen}
 use Rattle.check_laws.proofs.Least.{tie}
 use Rattle.answer_laws.proofs.Lists.{least_in}
 use Rattle.answer_laws.proofs.BadPlaces.{bit_total, bit_ties}

@@ -19,7 +19,7 @@ use Rattle.fabric_laws.proofs.Members.{in_filter_map_to, in_filter_map_from}
 use Rattle.fabric_laws.proofs.Numbered.{get_in}
 use Rattle.fabric_laws.proofs.Sorted.{determined}
 use Rattle.cells_laws.proofs.Sites.{site_stands}
-use Rattle.upset_laws.proofs.Decided.{Decided, both, never, decided_by, is_true, chosen}
+use Rattle.words.proofs.Decided.{Decided, both, never, decided_by, is_true, chosen}
 use Rattle.route_laws.proofs.Same.{names}
 use Rattle.attempt_laws.proofs.Orders.{same_names}
 use Rattle.answer_laws.proofs.Lists.{IsOrderOf, ordered}

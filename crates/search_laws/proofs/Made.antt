@@ -15,7 +15,7 @@ use Rattle.paths.specs.Wiring.{Wiring, Rules}
 use Rattle.repair.specs.Turns.{Turn, routing}
 use Rattle.repair.specs.Usable.{IsUsable}
 use Rattle.repair.specs.Routes.{wire_weight, InTree}
-use Rattle.upset_laws.proofs.Decided.{Decided, chosen}
+use Rattle.words.proofs.Decided.{Decided, chosen}
 use Rattle.route_laws.proofs.Usable.{is_usable}
 use Rattle.route_laws.proofs.Routes.{tree_wires}
 use Rattle.search_laws.specs.Statements.{IsNumbered}
