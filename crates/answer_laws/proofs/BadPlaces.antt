@@ -44,10 +44,10 @@ use Rattle.answer_laws.proofs.Lists.{IsOrderOf, ordered, least_or_none}
 use Rattle.answer_laws.proofs.Ripped as ripped
 use Rattle.answer_laws.proofs.Told.{told_member}
 
-bit_total : IsTotalOrder bit_cmp
+pub bit_total : IsTotalOrder bit_cmp
 bit_total = then_total (on_total (λ b. b.frame) nat_cmp_total) (on_total (λ b. b.bit) nat_cmp_total)
 
-bit_ties : (a b : DeviceBit) → bit_cmp a b ≡ Equal → b ≡ a
+pub bit_ties : (a b : DeviceBit) → bit_cmp a b ≡ Equal → b ≡ a
 bit_ties a b e =
     let frames = number_same a.frame b.frame (first_ties (nat_cmp a.frame b.frame) (nat_cmp a.bit b.bit) e) in
     let bits = number_same a.bit b.bit (second_ties (nat_cmp a.frame b.frame) (nat_cmp a.bit b.bit) e) in
@@ -76,11 +76,11 @@ module _ (device : Device) (g : Graph) (is : IsGraph device g) where
       let w = stands device g t.0 f.0.sink n.0 n.1.0 in
       subst (λ (l : Link). HasWire g l.sink) s.1.1 (w.wire, w.numbered)
 
-  arc_sink : (a : GraphArc) → In g.arcs a → HasWire g a.sink
+  pub arc_sink : (a : GraphArc) → In g.arcs a → HasWire g a.sink
   arc_sink a i = let s = arc_stands device g is a i in (s.sink.wire, s.sink.numbered)
 
   module _ (image : Bits) where
-    link_sink : (link : Link) → In (links_of g image) link → HasWire g link.sink
+    pub link_sink : (link : Link) → In (links_of g image) link → HasWire g link.sink
     link_sink link i = elim ((links_law g image link).0 i) [
       | inl a ↦ subst (λ (l : Link). HasWire g l.sink) a.1.2 (arc_sink a.0 a.1.0)
       | inr j ↦ fixed_sink link j
@@ -90,7 +90,7 @@ module _ (device : Device) (g : Graph) (is : IsGraph device g) where
     below_wire o i here = output_wire device g is o i
     below_wire o i (onto {b} {c} q s) = link_sink (record { source = b; sink = c }) s
 
-    fed_wire : (o w : ℕ) → Feeds (routing_of g image) o w → HasWire g w
+    pub fed_wire : (o w : ℕ) → Feeds (routing_of g image) o w → HasWire g w
     fed_wire o w f = below_wire o f.output f.reach
 
 -- ---- one bad bit

@@ -66,7 +66,7 @@ is_false true = inr (λ e. let no : ⊥ = cc in no)
 is_false false = inl refl
 
 -- sites are in a total order
-site_total : (from : Site SliceKind) → IsTotalOrder (site_cmp from)
+pub site_total : (from : Site SliceKind) → IsTotalOrder (site_cmp from)
 site_total from =
     then_total (on_total (λ s. distance from.tile s.tile) nat_cmp_total)
     (then_total (on_total (λ s. (place_of s.tile).0) nat_cmp_total)

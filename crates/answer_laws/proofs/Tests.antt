@@ -51,7 +51,7 @@ is_value told None x = inr (λ e. let no : ⊥ = cc in no)
 is_value told (Some y) x = elim (told y x) [ inl e ↦ inl (λ i. Some (e i)) | inr n ↦ inr (λ e. n (some_same e)) ]
 
 module _ (g : Graph) (image : Bits) (config : Config) where
-  has_line : (arc : GraphArc) → Decided (HasLine g config arc)
+  pub has_line : (arc : GraphArc) → Decided (HasLine g config arc)
   has_line arc = decided_by
       (λ h. record { text = h.0; line = h.1.1.0; section = h.1.0; listed = h.1.1.1.0; is = h.1.1.1.1 })
       (λ r. (r.text, (r.section, (r.line, (r.listed, r.is)))))

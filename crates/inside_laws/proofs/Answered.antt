@@ -1,5 +1,5 @@
 -- A sound job is answered.
-use Rattle.std.proofs.Common.{ℕ, ◌<◌}
+use Rattle.std.proofs.Common.{◌<◌}
 use Rattle.repair.specs.Layouts.{configured}
 use Rattle.attempts.specs.Jobs.{Job}
 use Rattle.attempts.specs.Attempts.{Answer, IsAnswer}

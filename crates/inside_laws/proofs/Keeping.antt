@@ -1,5 +1,5 @@
 -- Each layout inside an attempt keeps the design, connection by connection.
-use Rattle.std.proofs.Common.{◌≡◌, ℕ, inl, inr, List, [], ◌∷◌, Some, refl, sym, subst, arith}
+use Rattle.std.proofs.Common.{◌≡◌, ℕ, inl, inr, List, ◌∷◌, Some, refl, sym, subst, arith}
 use Rattle.words.specs.Members.{In}
 use Rattle.fabric.specs.Graph.{GraphArc}
 use Rattle.circuit.specs.Parts.{Source, sources}

@@ -1,3 +1,4 @@
 pub mod Keeping
 pub mod Stopping
 pub mod Answered
+pub mod Reached

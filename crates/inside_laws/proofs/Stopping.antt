@@ -1,5 +1,5 @@
 -- Where an attempt stops: a complete one at its last layout, a blocked one at a layout inside it.
-use Rattle.std.proofs.Common.{◌≡◌, ℕ, ◌⊎◌, inl, inr, List, [], ◌∷◌, Some, refl, sym, ap, subst, ◌∙◌}
+use Rattle.std.proofs.Common.{◌≡◌, ℕ, inl, inr, List, [], ◌∷◌, Some, sym, subst}
 use Rattle.circuit.specs.Parts.{Source}
 use Rattle.circuit.specs.Circuits.{Circuit, Connection}
 use Rattle.fabric.specs.Graph.{GraphArc}

@@ -12,7 +12,7 @@ use Rattle.attempts.specs.Turns.{Cut, Complete, Blocked}
 use Rattle.attempts.specs.Attempts.{Attempt, Answer, IsAnswer}
 use Rattle.headline_laws.specs.Sound.{IsSoundJob}
 use Rattle.headline_laws.specs.Kept.{KeepsDesign, StateKeeps}
-use Rattle.inside_laws.specs.Inside.{IsInside}
+use Rattle.inside_laws.specs.Inside.{IsInside, IsReached}
 
 -- the layout has each connection of the circuit that was read but for some
 abbrev pub HasOthers : Job → Layout → List Connection → Type 0
@@ -41,3 +41,11 @@ CompleteEndsInside = (job : Job) (state : State) (z : Layout) → Attempt job st
 -- A sound job with at least one attempt has an answer.
 abbrev pub SoundJobIsAnswered : Type 0
 SoundJobIsAnswered = (job : Job) → IsSoundJob job → 0 < job.rounds → (a : Answer) × IsAnswer job a
+
+-- Each state at which the attempts of a sound job stand keeps the design; so does each layout inside each of its attempts.
+abbrev pub EachStateKeeps : Type 0
+EachStateKeeps = (job : Job) → IsSoundJob job → (state : State) → IsReached job state → StateKeeps job state
+
+abbrev pub EachLayoutKeeps : Type 0
+EachLayoutKeeps = (job : Job) → IsSoundJob job → (state : State) → IsReached job state → (z : Layout) (left : List Connection) → IsInside job state z left
+    → KeepsDesign job z × HasOthers job z left

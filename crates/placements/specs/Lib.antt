@@ -1,0 +1,3 @@
+pub mod EqualSites
+pub mod MoveFaults
+pub mod Tested
