@@ -55,8 +55,6 @@ pub struct Names {
 
 impl Model for Names {
     ghost use Rattle.std.specs.Prelude.{List, map};
-    ghost use Rattle.words.specs.Twice.{HasNoneTwice};
-    ghost use Rattle.records.specs.Limits.{most_wires};
     ghost use Rattle.fabric.specs.Wires.{Wire};
     ghost use Rattle.wire_names.specs.Codes.{wire_of, AreKept};
 
@@ -69,6 +67,8 @@ impl Model for Names {
 
 impl Names {
     ghost use Rattle.fabric.specs.WireNames.{Named};
+    ghost use Rattle.words.specs.Twice.{HasNoneTwice};
+    ghost use Rattle.records.specs.Limits.{most_wires};
     ghost use Rattle.wire_names.specs.Kept.{CanBeKept, number_of_name, with_name};
     ghost use Rattle.wire_names.specs.LentNames.{wire_name};
 
