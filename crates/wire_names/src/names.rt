@@ -69,6 +69,8 @@ impl Names {
     ghost use Rattle.words.specs.Twice.{HasNoneTwice};
     ghost use Rattle.records.specs.Limits.{most_wires};
     ghost use Rattle.fabric.specs.WireNames.{Named};
+    ghost use Rattle.words.specs.Twice.{HasNoneTwice};
+    ghost use Rattle.records.specs.Limits.{most_wires};
     ghost use Rattle.wire_names.specs.Kept.{CanBeKept, number_of_name, with_name};
     ghost use Rattle.wire_names.specs.LentNames.{wire_name};
 
