@@ -19,6 +19,3 @@ pub use errors::SideError;
 pub use printed::print;
 pub use reader::read;
 pub use side::Side;
-
-#[cfg(test)]
-mod tests;

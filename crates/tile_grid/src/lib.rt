@@ -9,6 +9,3 @@ mod tiles;
 pub use errors::GridError;
 pub use grid::{Grid, read};
 pub use tiles::Tile;
-
-#[cfg(test)]
-mod tests;
