@@ -1,6 +1,6 @@
 //! The files and the sink that lie outside of the program. The traits [`Files`] and [`Sink`] say what a
 //! caller can rely on: what a file holds, what was written, and how often a call failed. Each has three
-//! implementations: over the system, which tells nothing of contents; in memory, where no call fails; and
+//! implementations: over the system, which tells nothing of real contents; in memory, where no call fails; and
 //! in memory, where chosen calls fail. [`read_whole`] and [`write_all`] are what a program calls.
 #![tactic(auto)]
 
@@ -12,8 +12,6 @@ mod memory;
 mod sink;
 mod sure;
 mod system;
-#[cfg(test)]
-mod tests;
 mod whole;
 
 pub use files::Files;

@@ -1,9 +1,10 @@
-//! The real files and the standard output: the trusted edge, a few lines over the system's calls. No
-//! clause says what a real file holds or what a terminal takes, so these tell nothing of contents.
+//! The real files and the standard output: the trusted edge. What is trusted is that the system's single calls do what
+//! they answer; the loops over them are proved. No clause says what a real file holds, so [`OsFiles`] tells nothing of
+//! contents. [`OsSink`] tells what its writer tells: the standard output nothing, a writer in memory its bytes.
 
-ghost use Rattle.std.specs.Prelude.{◌≡◌, ◌≤◌, [], None, length, IfOk};
+ghost use Rattle.std.specs.Prelude.{◌≡◌, ◌≤◌, ◌==◌, ◌⊎◌, [], None, IsSome, length, unwrap_or, IfErr, IfOk, if◌then◌else◌};
 
-use super::{Files, PutAnswer, ReadAnswer, Sink, TakeAnswer};
+use super::{Files, PutAnswer, ReadAnswer, Sink, SinkError, TakeAnswer, write_all};
 use std::io::{self, ErrorKind, Read, Seek, SeekFrom, Write};
 use std::{fs, rt};
 
@@ -30,6 +31,7 @@ impl<R: rt::Files> OsFiles<R> {
     }
 }
 
+// One read of the system, at an offset.
 fn read_at<R: rt::Files>(rt: &R, name: &str, at: u64, buf: &mut [u8]) -> io::Result<usize>
     ensures { IfOk result (λ n. n ≤ length buf.old) }
 {
@@ -42,6 +44,25 @@ fn is_missing(kind: ErrorKind) -> bool {
     kind == ErrorKind::NotFound || kind == ErrorKind::NotADirectory
 }
 
+// Writes a whole file by single writes of the system.
+fn put<R: rt::Files>(rt: &R, name: &str, bytes: &[u8]) -> io::Result<Result<(), SinkError>> {
+    let mut file = OsSink::new(fs::create(rt, name)?);
+    Ok(write_all(&mut file, bytes))
+}
+
+// What a read of the system answers.
+fn answer_of(read: io::Result<usize>) -> ReadAnswer
+    ensures bytes { IfOk read (λ n. result ≡ (if n == 0 then ReadAnswer.End else ReadAnswer.Got n)) }
+    ensures none { IfErr read (λ _. (result ≡ ReadAnswer.Missing) ⊎ (result ≡ ReadAnswer.Failed)) }
+{
+    match read {
+        Ok(0) => ReadAnswer::End,
+        Ok(count) => ReadAnswer::Got(count),
+        Err(error) if is_missing(error.kind()) => ReadAnswer::Missing,
+        Err(_) => ReadAnswer::Failed,
+    }
+}
+
 impl<R: rt::Files> Files for OsFiles<R> {
     ghost told = { λ _. ⊥ };
 
@@ -52,22 +73,21 @@ impl<R: rt::Files> Files for OsFiles<R> {
     ghost write_faults = { λ s. s.write_faults };
 
     fn read(&mut self, name: &str, at: u64, buf: &mut [u8]) -> ReadAnswer {
-        match read_at(&self.rt, name, at, buf) {
-            Ok(0) => ReadAnswer::End,
-            Ok(count) => ReadAnswer::Got(count),
-            Err(error) if is_missing(error.kind()) => ReadAnswer::Missing,
-            Err(_) => {
+        match answer_of(read_at(&self.rt, name, at, buf)) {
+            ReadAnswer::Failed => {
                 self.read_faults = self.read_faults.saturating_add(1);
                 ReadAnswer::Failed
             }
+            answer => answer,
         }
     }
 
     fn write(&mut self, name: &str, bytes: &[u8]) -> PutAnswer {
-        match fs::write(&self.rt, name, bytes) {
-            Ok(()) => PutAnswer::Done,
+        match put(&self.rt, name, bytes) {
+            Ok(Ok(())) => PutAnswer::Done,
+            Ok(Err(SinkError::Memory)) => PutAnswer::Memory,
             Err(error) if error.kind() == ErrorKind::OutOfMemory => PutAnswer::Memory,
-            Err(_) => {
+            _ => {
                 self.write_faults = self.write_faults.saturating_add(1);
                 PutAnswer::Failed
             }
@@ -75,130 +95,36 @@ impl<R: rt::Files> Files for OsFiles<R> {
     }
 }
 
-/// The standard output.
+/// A writer of the system as a sink: the standard output, or an open file.
 #[derive(Drop)]
-pub struct OsSink<R: Print + Drop> {
-    rt: R,
+pub struct OsSink<W: Write + Drop> {
+    writer: W,
     faults: u64,
 }
 
-impl<R: Print + Drop> OsSink<R> {
-    /// The standard output of a runtime.
-    pub fn new(rt: R) -> OsSink<R>
-        ensures faults { ⟦<OsSink<R> as Sink>⟧.faults result ≡ 0 }
+impl<W: Write + Drop> OsSink<W> {
+    /// A writer, none of whose writes failed yet.
+    pub fn new(writer: W) -> OsSink<W>
+        ensures faults { ⟦<OsSink<W> as Sink>⟧.faults result ≡ 0 }
     {
-        OsSink { rt, faults: 0 }
+        OsSink { writer, faults: 0 }
     }
 }
 
-impl<R: Print + Drop> Sink for OsSink<R> {
-    ghost told = { λ _. ⊥ };
+impl<W: Write + Drop> Sink for OsSink<W> {
+    ghost told = { λ s. IsSome (W.contents s.writer) };
 
-    ghost written = { λ _. [] };
+    ghost written = { λ s. unwrap_or (W.contents s.writer) [] };
 
     ghost faults = { λ s. s.faults };
 
     fn write(&mut self, piece: &[u8]) -> TakeAnswer {
-        match io::writer(&self.rt).write(piece) {
+        match self.writer.write(piece) {
             Ok(count) if count > 0 || piece.is_empty() => TakeAnswer::Took(count),
             _ => {
                 self.faults = self.faults.saturating_add(1);
                 TakeAnswer::Failed
             }
         }
-    }
-}
-
-#[cfg(test)]
-mod tests {
-    use super::*;
-    use crate::tests::assert_reads;
-    use crate::{SinkError, WholeError, write_all};
-    use std::fmt::Display;
-    use std::fs::File;
-    use std::path::PathBuf;
-    use std::test::Fail;
-    use std::{env, process};
-
-    // The path of a new folder, of this process alone.
-    fn new_folder(rt: &HostRuntime, name: &str) -> io::Result<PathBuf> {
-        let id = process::id(rt.process());
-        let mut path = env::temp_dir(rt)?;
-        path.push(format!(in rt.alloc(); "{name}-{id}")?.as_str())?;
-        fs::create_dir(rt, path.as_str())?;
-        Ok(path)
-    }
-
-    // A file that is written and read; no such file; a path through a file; a folder in a file's place.
-    #[test]
-    fn real_files(rt: HostRuntime) -> Result<(), Fail> {
-        let alloc = rt.alloc();
-        let folder = new_folder(&rt, "outside-files")?;
-        let file = folder.join(alloc, "file")?;
-        let none = folder.join(alloc, "none")?;
-        let through = file.join(alloc, "none")?;
-        let mut files = OsFiles::new(rt);
-        let text = b"some\xff bytes";
-        assert_eq!(rt;
-            files.write(file.as_str(), b"an older and longer text"),
-            PutAnswer::Done
-        );
-        assert_eq!(rt; files.write(file.as_str(), text), PutAnswer::Done);
-        for (path, limit, want) in [
-            (file.as_str(), 11, Ok(text.as_slice())),
-            (file.as_str(), 10, Err(WholeError::TooLong)),
-            (none.as_str(), 99, Err(WholeError::Missing)),
-            (through.as_str(), 99, Err(WholeError::Missing)),
-            (folder.as_str(), 99, Err(WholeError::ReadFault)),
-        ] {
-            assert_reads(&rt, alloc, &mut files, path, limit, want);
-        }
-        assert_eq!(rt; files.write(through.as_str(), text), PutAnswer::Failed);
-        assert_eq!(rt; files.write(folder.as_str(), text), PutAnswer::Failed);
-        assert_eq!(rt; (files.read_faults, files.write_faults), (1, 2));
-        fs::remove_dir_all(&rt, folder.as_str())?;
-        Ok(())
-    }
-
-    // Stands for the standard output.
-    #[derive(Drop)]
-    struct ToFile(File);
-
-    impl Print for ToFile {
-        fn print<D: Display + Drop>(&self, _value: D) -> io::Result<()> {
-            Err(io::Error::from(ErrorKind::Unsupported))
-        }
-
-        fn println<D: Display + Drop>(&self, _value: D) -> io::Result<()> {
-            Err(io::Error::from(ErrorKind::Unsupported))
-        }
-
-        fn write_all(&self, _bytes: &[u8]) -> io::Result<()> {
-            Err(io::Error::from(ErrorKind::Unsupported))
-        }
-
-        fn write_some(&self, bytes: &[u8]) -> io::Result<usize> {
-            (&self.0).write(bytes)
-        }
-    }
-
-    // A file that is open to write takes the bytes. One that is open to read takes none.
-    #[test]
-    fn real_sink(rt: HostRuntime) -> Result<(), Fail> {
-        let folder = new_folder(&rt, "outside-sink")?;
-        let file = folder.join(rt.alloc(), "file")?;
-        let mut out = OsSink::new(ToFile(fs::create(&rt, file.as_str())?));
-        assert_eq!(rt; write_all(&mut out, b"some "), Ok(()));
-        assert_eq!(rt; write_all(&mut out, b"bytes"), Ok(()));
-        assert_eq!(rt; out.write(b""), TakeAnswer::Took(0));
-        assert_eq!(rt; out.faults, 0);
-        let text = fs::read(&rt, file.as_str())?;
-        assert_eq!(rt; text.as_slice(), b"some bytes".as_slice());
-        let mut closed = OsSink::new(ToFile(fs::open(&rt, file.as_str())?));
-        assert_eq!(rt; write_all(&mut closed, b"lost"), Err(SinkError::WriteFault));
-        assert_eq!(rt; closed.write(b"lost"), TakeAnswer::Failed);
-        assert_eq!(rt; closed.faults, 2);
-        fs::remove_dir_all(&rt, folder.as_str())?;
-        Ok(())
     }
 }

@@ -1,0 +1,12 @@
+//! The top call `harden_main`: what the words behind the program's name say is done over any files and any sink.
+#![tactic(auto)]
+
+mod command;
+mod drivers;
+mod print;
+mod reply;
+mod status;
+mod top;
+
+pub use status::{Status, exit_number};
+pub use top::harden_main;
