@@ -145,8 +145,7 @@ module _ (device : Device) (k : Configured) (is : IsGraph device k.graph) where
       let first = least_domain (only bit) bad.0 bad.1.1.0 in
       let second = next_domain (only bit) first.0 bad in
       let first_at = some_place (only bit) first.0 first.1.has in
-      let second_at = some_place (only bit) second.0 second.1.has.0 in
-      (
+      let second_at = some_place (only bit) second.0 second.1.has.0 in (
         record { bit = bit; first = first.0; first_at = first_at.0; second = second.0; second_at = second_at.0 },
         (record { mux_bit = mux; first = first.1; second = second.1; first_at = first_at.1; second_at = second_at.1 }, refl),
       )
@@ -173,8 +172,7 @@ module _ (device : Device) (k : Configured) (is : IsGraph device k.graph) where
   listed [] bad = ([], record { same = refl; each = λ b i. absurd i })
   listed (bit ∷ bits) bad =
       let first = bad_place bit (bad bit (inl refl)).0 (bad bit (inl refl)).1 in
-      let rest = listed bits (λ b i. bad b (inr i)) in
-      (
+      let rest = listed bits (λ b i. bad b (inr i)) in (
         first.0 ∷ rest.0,
         record {
           same = (λ i. first.1.1 i ∷ rest.1.same i);
@@ -189,8 +187,7 @@ module _ (device : Device) (k : Configured) (is : IsGraph device k.graph) where
   -- the bad places exist
   pub some_bad_places : (list : List BadPlace) × AreBadPlaces k list
   some_bad_places =
-      let l = listed bad_bits.0 (λ b i. (bad_bits.1.members b).0 i) in
-      (
+      let l = listed bad_bits.0 (λ b i. (bad_bits.1.members b).0 i) in (
         l.0,
         record {
           rising = rising_list l.0 (subst (IsRising bit_cmp) (sym l.1.same) bad_bits.1.rising);

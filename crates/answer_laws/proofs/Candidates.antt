@@ -180,8 +180,7 @@ module _ (job : Job) (state : State) (m : Move) where
       let r = n.1.1.1 in
       let c = r.1.1 in
       let passed = c.1.1.0 in
-      let lost = c.1.1.1 in
-      (
+      let lost = c.1.1.1 in (
         layout_with h.0 n.0 r.0 c.0,
         (
           lost.0,
@@ -219,7 +218,7 @@ module _ (job : Job) (state : State) (m : Move) where
       let c = h.1.1 in
       let e : y ≡ layout_with c.old c.new c.moved.rest y.cells = (λ i. record { graph = c.moved.graph i; config = c.moved.text i; cells = y.cells; side = c.moved.side i }) in
       let cells : cells_of g profile (image_of g (moved_config c.old c.new c.moved.rest)) (moved_side m state.layout.side) ≡ Ok y.cells =
-          subst (λ (z : Layout). cells_of g profile (configured z).image z.side ≡ Ok z.cells) e c.moved.cells in
+      subst (λ (z : Layout). cells_of g profile (configured z).image z.side ≡ Ok z.cells) e c.moved.cells in
       let passed : TestsLayout (layout_with c.old c.new c.moved.rest y.cells) = subst TestsLayout e (c.clean, (c.agree, (c.alike, (c.modelled, (c.none_new, c.safe))))) in
       let lost : WithRipped (layout_with c.old c.new c.moved.rest y.cells) = subst WithRipped e (h.1.0, (record { rising = c.moved.ripped_in_order; members = c.moved.ripped }, c.connected)) in
       (c.old, (c.moved.sites.from, (c.new, (c.moved.sites.to, ((c.shape, (c.empty, c.clear)), (c.moved.rest, (c.moved.without, (y.cells, (cells, (passed, lost))))))))))

@@ -15,8 +15,7 @@ some_lines Dropped test (line ∷ lines) = go (test line) (some_lines Dropped te
 module _ (Dropped : List ℕ → ArcLine → Type 0) (test : (tile : List ℕ) (line : ArcLine) → Decided (Dropped tile line)) where
   some_text : (text : TileText) → (rest : TileText) × TextWithout (Dropped text.tile) text rest
   some_text text =
-      let lines = some_lines (Dropped text.tile) (test text.tile) text.arcs in
-      (
+      let lines = some_lines (Dropped text.tile) (test text.tile) text.arcs in (
         record { tile = text.tile; line = text.line; arcs = lines.0; words = text.words; enums = text.enums; unknowns = text.unknowns },
         record { arcs = lines.1; others = refl },
       )

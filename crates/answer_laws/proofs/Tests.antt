@@ -114,8 +114,7 @@ module _ (job : Job) (state : State) (slice : List ℕ) where
     clocked_from : (tile : List ℕ) (line : ArcLine) → Clocked tile line → ClockLineWith tile line
     clocked_from tile line h =
         let at = h.1.1.1 in
-        let net = at.1.1.1.1 in
-        (
+        let net = at.1.1.1.1 in (
           record {
             arc = h.0;
             named = h.1.0;
