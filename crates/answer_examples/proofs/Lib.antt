@@ -1,1 +1,1 @@
-pub mod Crossed
+pub mod Toggle

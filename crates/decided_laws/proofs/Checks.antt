@@ -1,5 +1,5 @@
 -- Checks in a row are decided where each is.
-use Rattle.std.proofs.Common.{◌≡◌, inl, inr, Option, Some, None, refl}
+use Rattle.std.proofs.Common.{inl, inr, Option, Some, None, refl}
 use Rattle.answers.specs.Refusals.{Refusal}
 use Rattle.design_checks.specs.Checks.{Passes, ◌before◌, Computed}
 use Rattle.decided_laws.specs.Statements.{IsDecided}

@@ -19,7 +19,7 @@ use Rattle.design_checks.specs.GraphChecks.{graph_size_refusal, Overlap}
 use Rattle.design_checks.specs.LineChecks.{line_refusal}
 use Rattle.design_checks.specs.RoutingChecks.{ArcsDiffer, AreContested}
 use Rattle.design_checks.specs.CellChecks.{refusal_of_cells, cell_refusal}
-use Rattle.design_checks.specs.DesignChecks.{GraphRefused, TextRefused, CellsRefused, IsFirstRefusal, of_files, of_design}
+use Rattle.design_checks.specs.DesignChecks.{GraphRefused, TextRefused, IsFirstRefusal, of_files, of_design}
 use Rattle.check_laws.proofs.Passing.{second_passes}
 use Rattle.decided_laws.specs.Statements.{IsDecided, IsCircuitRead}
 use Rattle.decided_laws.proofs.Checks.{before_decided, computed_decided}

@@ -1,5 +1,5 @@
 -- Outputs that stand twice, arcs that differ and contested wires are decided.
-use Rattle.std.proofs.Common.{◌≡◌, ◌≢◌, ℕ, ◌<◌, ◌≤◌, Bool, true, false, ◌⊎◌, inl, inr, List, [], ◌∷◌, ◌++◌, map, filter_map, option_map, Some, refl, sym, ap, subst, ◌∙◌, arith}
+use Rattle.std.proofs.Common.{◌≡◌, ◌≢◌, ℕ, ◌≤◌, Bool, true, false, ◌⊎◌, inl, inr, List, ◌∷◌, map, filter_map, option_map, Some, refl, sym, ap, subst, ◌∙◌, arith}
 use Rattle.std.specs.Prelude.{slice_get}
 use Rattle.std.specs.Ordering.{nat_cmp}
 use Rattle.std.specs.Cmp.{nat_cmp_total}
@@ -11,7 +11,7 @@ use Rattle.patterns.specs.Fits.{has_plain_bit}
 use Rattle.records.specs.Grid.{Tile}
 use Rattle.records.specs.Config.{Config}
 use Rattle.links.specs.Links.{Link, Routing, Counting}
-use Rattle.links.proofs.Members.{in_left, in_right, in_map, of_flat_map, is_in, same_number}
+use Rattle.links.proofs.Members.{in_map, of_flat_map, is_in, same_number}
 use Rattle.links.proofs.Feeds.{is_counting}
 use Rattle.fabric.specs.Device.{Device, fixed_at}
 use Rattle.fabric.specs.Graph.{GraphMux, GraphArc, Graph}
@@ -25,7 +25,6 @@ use Rattle.fabric_laws.proofs.Standing.{stands, arc_stands}
 use Rattle.cells_laws.proofs.Options.{mapped_from, then_from}
 use Rattle.route_laws.proofs.Same.{names}
 use Rattle.answers.specs.Refusals.{Refusal, OverlapShape, ArcDiffers, Contested}
-use Rattle.design_checks.specs.Checks.{IsLeast}
 use Rattle.design_checks.specs.GraphChecks.{IsOutputTwice, Overlap, overlap}
 use Rattle.design_checks.specs.RoutingChecks.{MuxName, mux_name_cmp, Differs, ArcsDiffer, differ, IsContested, Asserts, AssertsBeside, AreTwoLeast, two, alone, AreContested, contested}
 use Rattle.check_laws.proofs.Orders.{mux_total}

@@ -1,6 +1,6 @@
 -- Jobs and states that are the same but for the numbers of lines: the same nets are ripped, the same lines removed and the
 -- same connections lost.
-use Rattle.std.proofs.Common.{◌≡◌, ℕ, ◌⊎◌, inl, inr, List, [], ◌∷◌, map, Option, Some, refl, sym, ap, subst, ◌∙◌}
+use Rattle.std.proofs.Common.{◌≡◌, ℕ, inl, inr, List, Option, refl, sym, ap, subst, ◌∙◌}
 use Rattle.std.specs.Prelude.{option_and_then}
 use Rattle.words.specs.Members.{In}
 use Rattle.records.specs.Config.{ArcLine, TileText, Config}
@@ -11,8 +11,8 @@ use Rattle.fabric.specs.Device.{Device}
 use Rattle.fabric.specs.Graph.{GraphArc, Graph}
 use Rattle.fabric.specs.Image.{tile_named, arc_of_line}
 use Rattle.circuit.specs.Parts.{PartRef, Source, sources}
-use Rattle.circuit.specs.Pins.{Pin, pins}
-use Rattle.circuit.specs.Circuits.{Circuit, Connection, IsConnection}
+use Rattle.circuit.specs.Pins.{pins}
+use Rattle.circuit.specs.Circuits.{Connection, IsConnection}
 use Rattle.upset.specs.Configured.{Configured, circuit_of}
 use Rattle.repair.specs.Layouts.{Layout, configured}
 use Rattle.repair.specs.Nets.{IsRipped}

@@ -1,9 +1,8 @@
 -- The answer to a job without numbers of lines is that to the job, without them.
-use Rattle.std.proofs.Common.{◌≡◌, ℕ, suc, ◌<◌, inl, inr, List, [], ◌∷◌, ◌++◌, Some, refl, sym, ap, subst, ◌∙◌}
-use Rattle.words.specs.Members.{In}
-use Rattle.records.specs.Config.{ArcLine, Config}
+use Rattle.std.proofs.Common.{◌≡◌, ℕ, inl, inr, List, [], ◌∷◌, refl, sym, ap, subst, ◌∙◌}
+use Rattle.records.specs.Config.{ArcLine}
 use Rattle.fabric.specs.GraphOf.{IsGraph}
-use Rattle.circuit.specs.Circuits.{Circuit, Connection, IsConnection}
+use Rattle.circuit.specs.Circuits.{Circuit, Connection}
 use Rattle.upset.specs.Configured.{circuit_of}
 use Rattle.upset.specs.Safe.{IsSafe}
 use Rattle.repair.specs.Layouts.{Layout, configured, with_path}
@@ -11,11 +10,11 @@ use Rattle.repair.specs.Nets.{IsRipped}
 use Rattle.repair.specs.Ripping.{IsRippedLine}
 use Rattle.attempts.specs.Jobs.{Job, State, read_of}
 use Rattle.attempts.specs.Starts.{IsRippedAtStart, IsFirstState}
-use Rattle.attempts.specs.Turns.{Cut, Outcome, Complete, Blocked, behind, ComesOut}
-use Rattle.attempts.specs.Attempts.{Event, Ending, Attempt, Runs, completes, enough, comes_first, at_pad, no_site, moves, Answer, Standing, Ended, IsAnswer, standing, ended}
+use Rattle.attempts.specs.Turns.{Outcome, Complete, Blocked, behind, ComesOut}
+use Rattle.attempts.specs.Attempts.{Event, Ending, Attempt, Runs, completes, enough, comes_first, at_pad, no_site, moves, Answer, IsAnswer, standing, ended}
 use Rattle.attempt_laws.proofs.Runs.{one_answer}
 use Rattle.text_laws.specs.SameButLines.{unnumbered_arc}
-use Rattle.line_laws.specs.Plain.{plain_config, plain_layout, plain_job, plain_ending, plain_answer}
+use Rattle.line_laws.specs.Plain.{plain_layout, plain_job, plain_ending, plain_answer}
 use Rattle.line_laws.proofs.Texts.{config_twice, now_same, plain_to, plain_from, path_same}
 use Rattle.line_laws.proofs.Routes.{plain_route, plain_block}
 use Rattle.line_laws.proofs.Lines.{rest_along}
@@ -33,10 +32,25 @@ plain_behind x (Blocked earlier at later cut) = refl
 comes_out_plain : (read : Circuit) (rims : List (List ℕ)) (order : List Connection) (y : Layout) (out : Outcome) → ComesOut read rims y order out → ComesOut read rims (plain_layout y) order (plain_outcome out)
 comes_out_plain read rims [] y out c = ap plain_outcome c
 comes_out_plain read rims (x ∷ rest) y out c = elim c.1.1 [
-  | inl p ↦ (c.0, (c.1.0, inl (p.0, (plain_route read y c.0 rims p.0 _ p.1.0, (plain_outcome p.1.1.0, (
-      subst (λ z. ComesOut read rims z rest (plain_outcome p.1.1.0)) (sym (path_same y p.0)) (comes_out_plain read rims rest (with_path y p.0) p.1.1.0 p.1.1.1.0),
-      ap plain_outcome p.1.1.1.1 ∙ plain_behind x p.1.1.0,
-    ))))))
+  | inl p ↦ (
+    c.0,
+    (
+      c.1.0,
+      inl (
+        p.0,
+        (
+          plain_route read y c.0 rims p.0 _ p.1.0,
+          (
+            plain_outcome p.1.1.0,
+            (
+              subst (λ z. ComesOut read rims z rest (plain_outcome p.1.1.0)) (sym (path_same y p.0)) (comes_out_plain read rims rest (with_path y p.0) p.1.1.0 p.1.1.1.0),
+              ap plain_outcome p.1.1.1.1 ∙ plain_behind x p.1.1.0,
+            ),
+          ),
+        ),
+      ),
+    ),
+  )
   | inr b ↦ (c.0, (c.1.0, inr (b.0, (plain_block read y c.0 b.0.inside b.0.rim _ b.1.0, ap plain_outcome b.1.1))))
 ]
 

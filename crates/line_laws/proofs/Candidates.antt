@@ -1,9 +1,8 @@
 -- A slice has the same candidates, whatever the numbers of lines.
-use Rattle.std.proofs.Common.{◌≡◌, ◌≢◌, ℕ, false, List, [], ◌∷◌, ◌++◌, refl, sym, ap, subst, ◌∙◌}
+use Rattle.std.proofs.Common.{◌≡◌, ◌≢◌, ℕ, false, List, ◌++◌, refl, sym, ap, subst, ◌∙◌}
 use Rattle.std.specs.Prelude.{Ok}
 use Rattle.std.specs.declared.cmp.Ordering.TheVariants.{Greater}
 use Rattle.words.specs.Members.{In}
-use Rattle.patterns.specs.Bits.{Bits}
 use Rattle.records.specs.Config.{ArcLine, Config}
 use Rattle.records.specs.Profile.{SliceKind}
 use Rattle.links.specs.Links.{Feeds, IsClean}
@@ -30,7 +29,7 @@ use Rattle.line_laws.specs.Plain.{plain_config, plain_layout, plain_job}
 use Rattle.line_laws.proofs.Texts.{same_but, now_same}
 use Rattle.line_laws.proofs.Lines.{rest_along}
 use Rattle.line_laws.proofs.Moves.{moved_same}
-use Rattle.line_laws.proofs.Alike.{AlikeJobs, turned_jobs, plain_alike, connection, AlikeStates, turned_states, plain_state, plain_states, removed, becomes_ripped}
+use Rattle.line_laws.proofs.Alike.{turned_jobs, plain_alike, turned_states, plain_state, plain_states, removed, becomes_ripped}
 
 abbrev pub plain_step : Step → Step
 plain_step step = record { move = step.move; layout = plain_layout step.layout; ripped = step.ripped }

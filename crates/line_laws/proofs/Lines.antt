@@ -1,5 +1,5 @@
 -- Lines that are dropped are dropped without their numbers too.
-use Rattle.std.proofs.Common.{◌≡◌, ℕ, List, [], ◌∷◌, map, refl, sym, ap}
+use Rattle.std.proofs.Common.{ℕ, List, map, ap}
 use Rattle.records.specs.Config.{ArcLine, TileText, Config}
 use Rattle.repair.specs.Lines.{WithoutLines, no_lines, keeps, drops, TextWithout, TextsWithout, no_texts, next_text, WithoutArcLines}
 use Rattle.text_laws.specs.SameButLines.{unnumbered_arc, unnumbered}

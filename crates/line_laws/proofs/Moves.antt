@@ -1,5 +1,5 @@
 -- A move writes the settings of a slice alike, whatever the numbers of lines.
-use Rattle.std.proofs.Common.{◌≡◌, ℕ, Bool, true, false, List, [], ◌∷◌, ◌++◌, map, filter, filter_map, cond, Option, Some, None, option_map, refl, sym, ap, ap₂, subst, ◌∙◌}
+use Rattle.std.proofs.Common.{◌≡◌, ℕ, Bool, true, false, List, [], ◌∷◌, ◌++◌, map, filter, filter_map, cond, Option, Some, None, option_map, refl, sym, ap, ap₂, ◌∙◌}
 use Rattle.std.specs.Prelude.{not, if◌then◌else◌}
 use Rattle.std.specs.List.{cons_option}
 use Rattle.std.specs.Option.{is_some}
@@ -8,11 +8,10 @@ use Rattle.std.specs.declared.cmp.Ordering.{Ordering}
 use Rattle.std.specs.declared.cmp.Ordering.TheVariants.{Less, Equal, Greater}
 use Rattle.std.specs.Ordering.{match_ordering}
 use Rattle.std.proofs.lemmas.List.{map-append}
-use Rattle.records.specs.Config.{ArcLine, WordLine, EnumLine, TileText, Config}
+use Rattle.records.specs.Config.{WordLine, EnumLine, TileText, Config}
 use Rattle.records.specs.Profile.{SliceKind}
 use Rattle.fabric.specs.Wires.{name_cmp}
 use Rattle.cells.specs.Sites.{Site}
-use Rattle.repair.specs.Lines.{with_texts}
 use Rattle.attempts.specs.Moves.{renamed, moved_words, moved_enums, without_slice, with_settings, texts_with, at_tile, texts_of, words_of, enums_of, moved_config}
 use Rattle.text_laws.specs.SameButLines.{unnumbered_arc, unnumbered_word, unnumbered_enum, unnumbered_unknown, unnumbered}
 use Rattle.line_laws.specs.Plain.{plain_config}

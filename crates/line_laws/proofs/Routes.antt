@@ -1,5 +1,5 @@
 -- Paths and cuts of a turn don't look at the numbers of lines.
-use Rattle.std.proofs.Common.{◌≡◌, ◌≢◌, ℕ, ◌≤◌, ◌+◌, ◌↔◌, List, [], ◌∷◌, refl, sym, ap, subst, ◌∙◌}
+use Rattle.std.proofs.Common.{◌≡◌, ℕ, ◌≤◌, ◌+◌, List, [], ◌∷◌, refl, sym, ap, subst, ◌∙◌}
 use Rattle.std.specs.declared.cmp.Ordering.{Ordering}
 use Rattle.words.specs.Members.{In}
 use Rattle.fabric.specs.Graph.{GraphArc}
@@ -9,13 +9,13 @@ use Rattle.circuit.specs.Parts.{Source}
 use Rattle.circuit.specs.Circuits.{Circuit}
 use Rattle.paths.specs.Roads.{Roads}
 use Rattle.paths.specs.Paths.{LeadsOn, IsPath, weight_of, IsThePath}
-use Rattle.paths.specs.Cuts.{IsCut, IsLeastCut, IsInRim, IsBlockedBy}
+use Rattle.paths.specs.Cuts.{IsCut, IsBlockedBy}
 use Rattle.records.specs.Config.{Config}
 use Rattle.upset.specs.Configured.{Configured}
 use Rattle.repair.specs.Plain.{IsPlain}
 use Rattle.repair.specs.Turns.{Turn, routing}
 use Rattle.repair.specs.Usable.{IsUsable}
-use Rattle.repair.specs.Routes.{wire_weight, roads_for, InTree, IsTheRoute, IsBlocked}
+use Rattle.repair.specs.Routes.{wire_weight, InTree, IsTheRoute, IsBlocked}
 use Rattle.repair.specs.Layouts.{Layout, configured, turn_over}
 use Rattle.line_laws.specs.Plain.{plain_config, plain_layout}
 use Rattle.line_laws.proofs.Texts.{now_same, plain_to, plain_from}

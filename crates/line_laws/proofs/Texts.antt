@@ -8,14 +8,13 @@ use Rattle.std.specs.Ordering.{match_ordering}
 use Rattle.words.specs.Members.{In}
 use Rattle.patterns.specs.Bits.{DeviceBit}
 use Rattle.records.specs.Grid.{Tile}
-use Rattle.records.specs.Config.{ArcLine, WordLine, EnumLine, UnknownLine, TileText, Config}
+use Rattle.records.specs.Config.{ArcLine, TileText, Config}
 use Rattle.fabric.specs.Wires.{name_cmp}
 use Rattle.fabric.specs.Graph.{GraphMux, GraphArc, Graph}
-use Rattle.fabric.specs.Image.{image_of, tile_named}
+use Rattle.fabric.specs.Image.{tile_named}
 use Rattle.fabric_laws.proofs.Graphs.{some_same}
-use Rattle.upset.specs.Configured.{Configured}
 use Rattle.config_grammar.specs.ConfigText.{is_none_yet}
-use Rattle.repair.specs.Plain.{unknown_bit, unknown_bits_in, unknown_bits, IsPlain}
+use Rattle.repair.specs.Plain.{unknown_bit, unknown_bits_in, IsPlain}
 use Rattle.repair.specs.Lines.{TileLine, line_of_arc, arc_line_cmp, with_line, text_with_line, text_of_line, texts_with_line, with_texts, with_arc_line, with_arc_lines}
 use Rattle.repair.specs.Layouts.{Layout, configured, with_path}
 use Rattle.text_laws.specs.SameButLines.{unnumbered_arc, unnumbered_word, unnumbered_enum, unnumbered_unknown, unnumbered, has_lines, SameButLines}

@@ -1,6 +1,5 @@
 -- What speaks against a move is decided and one thing.
-use Rattle.std.proofs.Common.{◌≡◌, ◌≢◌, Bool, true, false, ◌⊎◌, ◌↔◌, inl, inr, List, Option, Some, None, refl, sym, ap, subst, ◌∙◌}
-use Rattle.std.specs.declared.cmp.Ordering.TheVariants.{Greater}
+use Rattle.std.proofs.Common.{◌≡◌, Bool, true, false, ◌⊎◌, ◌↔◌, inl, inr, List, Option, Some, None, refl, sym, ap, ◌∙◌}
 use Rattle.words.specs.Members.{In}
 use Rattle.patterns.specs.Bits.{DeviceBit, Bits}
 use Rattle.records.specs.Profile.{SliceKind}
@@ -11,7 +10,7 @@ use Rattle.cells.specs.Sites.{Site, settings_at}
 use Rattle.cells.specs.Shapes.{equal_shape}
 use Rattle.attempts.specs.Moves.{Move}
 use Rattle.fabric_laws.proofs.Graphs.{some_same}
-use Rattle.words.proofs.Decided.{Decided, is_true, chosen}
+use Rattle.words.proofs.Decided.{is_true, chosen}
 use Rattle.check_laws.proofs.Least.{tie}
 use Rattle.answer_laws.proofs.Lists.{least_in}
 use Rattle.answer_laws.proofs.BadPlaces.{bit_total, bit_ties}

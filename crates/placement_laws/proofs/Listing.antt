@@ -1,9 +1,8 @@
 -- The sites of equal shape are one list.
-use Rattle.std.proofs.Common.{◌≡◌, ℕ, true, ◌⊎◌, ◌↔◌, inl, inr, List, [], ◌∷◌, map, Option, Some, refl, sym, ap, subst, ◌∙◌}
+use Rattle.std.proofs.Common.{◌≡◌, ℕ, true, ◌↔◌, List, [], map, Option, Some, sym, ap, ◌∙◌}
 use Rattle.std.specs.List.{flat_map, filter_map}
 use Rattle.std.specs.declared.cmp.Ordering.{Ordering}
 use Rattle.std.specs.declared.cmp.Ordering.TheVariants.{Equal, Greater}
-use Rattle.std.specs.Cmp.{IsTotalOrder}
 use Rattle.std.specs.Ordering.{ordering_reverse}
 use Rattle.words.specs.Members.{In}
 use Rattle.records.specs.Grid.{Tile}
@@ -13,16 +12,16 @@ use Rattle.fabric.specs.Graph.{Graph}
 use Rattle.cells.specs.Sites.{Site, settings_at}
 use Rattle.cells.specs.Shapes.{equal_shape}
 use Rattle.attempts.specs.Candidates.{site_named, site_cmp}
-use Rattle.links.proofs.Members.{in_map, of_map, in_flat_map}
+use Rattle.links.proofs.Members.{in_map, in_flat_map}
 use Rattle.fabric_laws.proofs.Graphs.{some_same}
 use Rattle.fabric_laws.proofs.Members.{in_filter_map_to, in_filter_map_from}
 use Rattle.fabric_laws.proofs.Numbered.{get_in}
 use Rattle.fabric_laws.proofs.Sorted.{determined}
 use Rattle.cells_laws.proofs.Sites.{site_stands}
-use Rattle.words.proofs.Decided.{Decided, both, never, decided_by, is_true, chosen}
+use Rattle.words.proofs.Decided.{Decided, both, never, is_true, chosen}
 use Rattle.route_laws.proofs.Same.{names}
 use Rattle.attempt_laws.proofs.Orders.{same_names}
-use Rattle.answer_laws.proofs.Lists.{IsOrderOf, ordered}
+use Rattle.answer_laws.proofs.Lists.{ordered}
 use Rattle.answer_laws.proofs.Candidates.{site_total}
 use Rattle.placements.specs.EqualSites.{IsSliceSite, IsSameSite, IsEqualSite, AreEqualSites}
 
@@ -93,7 +92,7 @@ module _ (g : Graph) (profile : Profile) where
     pub some_equal_sites : (list : List (Site SliceKind)) × AreEqualSites g profile from list
     some_equal_sites =
         let o = ordered (site_cmp from) (site_total from) (IsEqualSite g profile from) equal_sites.0 equal_sites.1
-            (λ s u i j. ties_are_one s u ((equal_sites.1 s).0 i).site ((equal_sites.1 u).0 j).site) in
+        (λ s u i j. ties_are_one s u ((equal_sites.1 s).0 i).site ((equal_sites.1 u).0 j).site) in
         (o.0, record { rising = o.1.rising; members = o.1.members })
 
     pub one_list : (list others : List (Site SliceKind)) → AreEqualSites g profile from list → AreEqualSites g profile from others → list ≡ others

@@ -1,5 +1,5 @@
 -- A candidate is a step whose move nothing speaks against and whose layout passes the tests.
-use Rattle.std.proofs.Common.{◌≡◌, ℕ, Bool, true, false, ◌↔◌, inl, inr, List, find, Option, Some, None, refl, sym, ap, subst, ◌∙◌}
+use Rattle.std.proofs.Common.{◌≡◌, Bool, ◌↔◌, List, find, Option, Some, None, refl, sym, subst, ◌∙◌}
 use Rattle.std.specs.Prelude.{◌&&◌}
 use Rattle.std.specs.Str.{bytes_eq}
 use Rattle.std.proofs.lemmas.Bool.{and_parts, and_from}
@@ -7,7 +7,6 @@ use Rattle.std.proofs.lemmas.Slice.Eq.{bytes_eq-Decides}
 use Rattle.words.specs.Members.{In}
 use Rattle.records.specs.Profile.{SliceKind}
 use Rattle.records.specs.Side.{Placed, Side, D0}
-use Rattle.repair.specs.Layouts.{configured}
 use Rattle.cells.specs.Sites.{Site, slice_site}
 use Rattle.attempts.specs.Moves.{Move}
 use Rattle.attempts.specs.Jobs.{Job, State}
@@ -18,8 +17,8 @@ use Rattle.formed_laws.proofs.Found.{found_none}
 use Rattle.cells_laws.proofs.Options.{then_from}
 use Rattle.cells_laws.proofs.Sites.{site_stands}
 use Rattle.placements.specs.EqualSites.{IsSameSite, IsEqualSite, AreEqualSites, move_to, moves_to}
-use Rattle.placements.specs.MoveFaults.{holder, MayMove}
-use Rattle.placements.specs.Tested.{PassesTests, IsTested}
+use Rattle.placements.specs.MoveFaults.{holder}
+use Rattle.placements.specs.Tested.{IsTested}
 
 -- no named slice stands at the site of a move
 abbrev IsEmpty : Side → Move → Type 0

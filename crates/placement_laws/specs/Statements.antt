@@ -9,7 +9,7 @@ use Rattle.cells.specs.Sites.{Site}
 use Rattle.attempts.specs.Moves.{Move}
 use Rattle.attempts.specs.Jobs.{Job, State}
 use Rattle.attempts.specs.Candidates.{Step, IsCandidate}
-use Rattle.placements.specs.EqualSites.{AreEqualSites, move_to, moves_to}
+use Rattle.placements.specs.EqualSites.{AreEqualSites, moves_to}
 use Rattle.placements.specs.MoveFaults.{MoveFault, MayMove, IsMoveFault}
 use Rattle.placements.specs.Tested.{IsTested}
 

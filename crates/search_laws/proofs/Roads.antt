@@ -1,29 +1,24 @@
 -- Paths and cuts by number are those of the turn.
-use Rattle.std.proofs.Common.{◌≡◌, ◌≢◌, ℕ, ◌<◌, ◌≤◌, ◌+◌, ◌↔◌, true, inl, inr, List, [], ◌∷◌, length, Some, refl, sym, ap, ap₂, subst, ◌∙◌}
-use Rattle.std.specs.Prelude.{slice_get}
+use Rattle.std.proofs.Common.{◌≡◌, ◌≢◌, ℕ, ◌<◌, ◌≤◌, ◌+◌, ◌↔◌, List, [], ◌∷◌, refl, sym, ap, ap₂, subst, ◌∙◌}
 use Rattle.std.specs.declared.cmp.Ordering.TheVariants.{Greater}
-use Rattle.std.specs.Ordering.{nat_cmp}
-use Rattle.std.specs.Cmp.Lexicographic.{slice_cmp}
 use Rattle.words.specs.Members.{In}
 use Rattle.links.specs.Links.{Below}
 use Rattle.fabric.specs.Device.{Device}
 use Rattle.fabric.specs.Graph.{GraphArc, Graph}
-use Rattle.fabric.specs.GraphOf.{arc_cmp}
 use Rattle.fabric_laws.proofs.Numbered.{get_in, number_there}
 use Rattle.paths.specs.Roads.{IsBelow}
 use Rattle.paths.specs.Paths.{LeadsOn, IsPath, weight_of, IsThePath}
 use Rattle.paths.specs.Cuts.{IsLeastCut, IsInRim, IsBlockedBy}
-use Rattle.paths.specs.Wiring.{Wiring, Rules, IsArcOf, roads_of}
+use Rattle.paths.specs.Wiring.{Wiring, Rules, roads_of}
 use Rattle.path_laws.proofs.Numbered as numbered
 use Rattle.path_laws.proofs.Search.{least_is_reached, reached_is_least}
 use Rattle.repair.specs.Turns.{Turn, routing}
-use Rattle.repair.specs.Usable.{IsUsable}
 use Rattle.repair.specs.Routes.{wire_weight, roads_for, InTree, IsRoute, IsTheRoute, IsBlocked}
 use Rattle.route_laws.proofs.Routes as routes
 use Rattle.search_laws.specs.Numbered.{AreNumbersOf}
 use Rattle.search_laws.specs.Statements.{IsNumbered}
 use Rattle.search_laws.proofs.Order.{same_list_order}
-use Rattle.search_laws.proofs.Standing.{source_in, sink_in, tree_in, HasArc, arc_of, is_arc, below_to, below_from, meets}
+use Rattle.search_laws.proofs.Standing.{sink_in, arc_of, is_arc, below_to, below_from, meets}
 
 -- the arcs of a path are those of the graph, so they have numbers
 numbers_of_lead : (t : Turn) (w : ℕ) (path : List GraphArc) (pin : ℕ) → LeadsOn (roads_for t) w path pin → (ns : List ℕ) × AreNumbersOf t.now.graph ns path

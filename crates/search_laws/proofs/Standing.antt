@@ -1,5 +1,5 @@
 -- What stands for a turn by number: wires lie in range, and arcs have numbers.
-use Rattle.std.proofs.Common.{◌≡◌, ℕ, ◌<◌, ◌↔◌, true, inl, inr, List, [], ◌∷◌, length, Some, refl, sym, ap, subst, ◌∙◌, arith}
+use Rattle.std.proofs.Common.{◌≡◌, ℕ, ◌<◌, List, Some, sym, subst, ◌∙◌, arith}
 use Rattle.std.specs.Prelude.{slice_get}
 use Rattle.std.proofs.lemmas.Option.{slice_get_within}
 use Rattle.words.specs.Members.{In}
@@ -7,13 +7,11 @@ use Rattle.links.specs.Links.{Reaches, here, onto, Drives, Below}
 use Rattle.links.proofs.Feeds.{feeds_on}
 use Rattle.fabric.specs.Device.{Device}
 use Rattle.fabric.specs.Graph.{GraphArc, Graph}
-use Rattle.fabric.specs.GraphOf.{IsGraph}
-use Rattle.fabric_laws.proofs.Numbered.{get_in, number_there}
+use Rattle.fabric_laws.proofs.Numbered.{get_in}
 use Rattle.fabric_laws.proofs.Standing.{arc_stands}
 use Rattle.paths.specs.Wiring.{Wiring, Rules, IsArcOf, IsWiring, IsRules, IsTree, roads_of}
 use Rattle.repair.specs.Turns.{Turn, routing}
-use Rattle.repair.specs.Usable.{IsUsable}
-use Rattle.repair.specs.Routes.{history, wire_weight, roads_for, InTree}
+use Rattle.repair.specs.Routes.{wire_weight, InTree}
 use Rattle.check_laws.proofs.RoutingRules.{HasWire}
 use Rattle.answer_laws.proofs.BadPlaces.{arc_sink, link_sink, fed_wire}
 use Rattle.search_laws.specs.Statements.{IsNumbered}

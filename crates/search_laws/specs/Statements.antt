@@ -1,5 +1,5 @@
 -- What is proved of searches by number.
-use Rattle.std.specs.Prelude.{◌≡◌, ℕ, List, ◌↔◌}
+use Rattle.std.specs.Prelude.{ℕ, List, ◌↔◌}
 use Rattle.words.specs.Members.{In}
 use Rattle.fabric.specs.Device.{Device}
 use Rattle.fabric.specs.Graph.{GraphArc}

@@ -1,5 +1,5 @@
-use Rattle.answer_examples.proofs.Crossed as law
-use Rattle.answer_examples.proofs.crossed_has_an_answer.Goals as goal
+use Rattle.answer_examples.proofs.Toggle as law
+use Rattle.answer_examples.proofs.toggle_has_an_answer.Goals as goal
 
 pub returns-clause-apart : goal.returns-clause-apart
 returns-clause-apart c = law.apart
