@@ -1,6 +1,6 @@
 //! Grids.
 
-use crate::words::{fault, plain_fault, push_line, push_number, push_word};
+use crate::phrases::{fault, plain_fault, push_line, push_number, push_word};
 use anyhow::Result;
 use std::alloc::Global;
 use tile_grid::{Grid, GridError, Tile};

@@ -4,9 +4,9 @@
 #![tactic(auto)]
 
 mod grid;
+mod phrases;
 mod side;
 mod table;
-mod words;
 
 use anyhow::{Context, Result, bail};
 use std::alloc::Global;

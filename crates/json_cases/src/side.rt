@@ -1,6 +1,6 @@
 //! Side files.
 
-use crate::words::{fault, plain_fault};
+use crate::phrases::{fault, plain_fault};
 use anyhow::Result;
 use side_file::{Side, SideError};
 use std::alloc::Global;
