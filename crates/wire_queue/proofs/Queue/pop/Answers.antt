@@ -12,9 +12,11 @@ pub returns : goal.returns
 returns c =
     let sum = c.below_most.ensures in
     let small : c.in-Some.left ≤ most = omega arith in
-    let is : most - c.in-Some.left ≡ c.below_most.result = omega arith in
-    (omega arith, subst (λ (v : ℕ). Leaves c.args.self.now c.pop.new.self.data.items c.below_most.result v) (sym c.from_u32.ensures)
-    (subst (λ (xs : List (ℕ × ℕ)). Leaves xs c.pop.new.self.data.items c.below_most.result c.in-Some.w) c.self.view_is
-    (subst (λ (n : ℕ). Leaves c.self.inside.heap.data.items c.pop.new.self.data.items n c.in-Some.w) is
-    (leaves c.self.inside.heap.data.items c.pop.new.self.data.items c.in-Some.left c.in-Some.w small c.in-Some.ensures.permutation
-    (first_le_from_greatest nat_cmp (c.in-Some.left, c.in-Some.w) c.pop.new.self.data.items (c.in-Some.ensures.below_top c.self.invariant))))))
+    let is : most - c.in-Some.left ≡ c.below_most.result = omega arith in (
+      omega arith,
+      subst (λ (v : ℕ). Leaves c.args.self.now c.pop.new.self.data.items c.below_most.result v) (sym c.from_u32.ensures)
+          (subst (λ (xs : List (ℕ × ℕ)). Leaves xs c.pop.new.self.data.items c.below_most.result c.in-Some.w) c.self.view_is
+          (subst (λ (n : ℕ). Leaves c.self.inside.heap.data.items c.pop.new.self.data.items n c.in-Some.w) is
+          (leaves c.self.inside.heap.data.items c.pop.new.self.data.items c.in-Some.left c.in-Some.w small c.in-Some.ensures.permutation
+          (first_le_from_greatest nat_cmp (c.in-Some.left, c.in-Some.w) c.pop.new.self.data.items (c.in-Some.ensures.below_top c.self.invariant))))),
+    )
