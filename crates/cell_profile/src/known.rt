@@ -26,6 +26,16 @@ pub(crate) struct Counts {
 /// The counts of the first slice kind of each shape.
 pub(crate) type Shapes = BTreeMap<Name, Counts>;
 
+// Adds a tile type and a name; whether they are new.
+fn insert_name(known: &mut KindNames, kind: (Name, Name)) -> Result<bool, AllocError>
+    ensures added { (names : Seq KindName) → KnowsNames known.old names
+        → IfOk result (λ added. added ≡ not (is_member same_kind names kind)) }
+    ensures known { (names : Seq KindName) → KnowsNames known.old names
+        → OnOk result (KnowsNames known.new (names ++ kind ∷ [])) }
+{
+    Ok(known.insert(kind)?)
+}
+
 /// Adds the tile type and name of a kind; whether they are new.
 pub(crate) fn add_name(known: &mut KindNames, tile: &Name, name: &Name) -> Result<bool, AllocError>
     ensures added { (names : Seq KindName) → KnowsNames known.old names
@@ -33,7 +43,8 @@ pub(crate) fn add_name(known: &mut KindNames, tile: &Name, name: &Name) -> Resul
     ensures known { (names : Seq KindName) → KnowsNames known.old names
         → OnOk result (KnowsNames known.new (names ++ (tile.now, name.now) ∷ [])) }
 {
-    Ok(known.insert((tile.copy()?, name.copy()?))?)
+    let kind = (tile.copy()?, name.copy()?);
+    insert_name(known, kind)
 }
 
 /// The tile types and names of slice kinds.

@@ -1,6 +1,8 @@
 -- A search in a list that rises finds what is in it.
-use Rattle.std.proofs.Common.{◌≡◌, ℕ, ◌+◌, ◌<◌, ◌≤◌, ◌↔◌, inl, inr, true, List, length, get_or, zero, suc, Option, Some, None, Result, Ok, Err, MatchOption, refl, subst, ap, arith}
-use Rattle.std.specs.Ordering.{nat_cmp}
+use Rattle.std.proofs.Common.{◌≡◌, ℕ, ◌+◌, ◌<◌, ◌≤◌, ◌↔◌, inl, inr, true, List, length, get_or, zero, suc, Option, Some, None, Result, Ok, Err, MatchOption, slice_index_or, refl, sym, subst, ap, ◌∙◌, arith}
+use Rattle.std.specs.Ordering.{nat_cmp, ordering_index, ordering_then}
+use Rattle.std.specs.declared.cmp.Ordering.{Ordering}
+use Rattle.std.specs.declared.cmp.Ordering.TheVariants.{Less, Equal, Greater}
 use Rattle.std.specs.Result.{result_ok}
 use Rattle.std.specs.Option.{is_some}
 use Rattle.std.specs.List.Sorted.{IsStrictlyIncreasing, IsBinarySearchResult}
@@ -19,6 +21,20 @@ rises_over xs h i (suc j) le lt = elim (cases_eq i (suc j)) as (λ _. get_or xs 
       let l = h j (omega arith) in
       let r = rises_over xs h i j (omega arith) (omega arith) in omega arith)
 ]
+
+-- an order that ends with a tie is the order before it
+pub ends_tied : (o : Ordering) → ordering_then o Equal ≡ o
+ends_tied Less = refl
+ends_tied Equal = refl
+ends_tied Greater = refl
+
+-- a search by one order is one by another that answers the same
+pub same_search : (f g : ℕ → Ordering) → ((y : ℕ) → f y ≡ g y) → (xs : List ℕ) (r : Result ℕ ℕ) → IsBinarySearchResult f xs r → IsBinarySearchResult g xs r
+same_search f g same xs (Ok i) h = λ d. sym (same (slice_index_or xs i d)) ∙ h d
+same_search f g same xs (Err i) h = λ rises.
+    let parted = h (λ a b d le lt. subst (λ o. ordering_index o ≤ ordering_index (f (slice_index_or xs b d))) (sym (same (slice_index_or xs a d)))
+        (subst (λ o. ordering_index (g (slice_index_or xs a d)) ≤ ordering_index o) (sym (same (slice_index_or xs b d))) (rises a b d le lt))) in
+    ((λ j d from to. sym (same (slice_index_or xs j d)) ∙ parted.0 j d from to), (λ j d from to. sym (same (slice_index_or xs j d)) ∙ parted.1 j d from to))
 
 -- where a search ends
 abbrev pub IsPlace : List ℕ → ℕ → Option ℕ → Type 0
