@@ -33,7 +33,7 @@ pub same_search : (f g : ℕ → Ordering) → ((y : ℕ) → f y ≡ g y) → (
 same_search f g same xs (Ok i) h = λ d. sym (same (slice_index_or xs i d)) ∙ h d
 same_search f g same xs (Err i) h = λ rises.
     let parted = h (λ a b d le lt. subst (λ o. ordering_index o ≤ ordering_index (f (slice_index_or xs b d))) (sym (same (slice_index_or xs a d)))
-        (subst (λ o. ordering_index (g (slice_index_or xs a d)) ≤ ordering_index o) (sym (same (slice_index_or xs b d))) (rises a b d le lt))) in
+    (subst (λ o. ordering_index (g (slice_index_or xs a d)) ≤ ordering_index o) (sym (same (slice_index_or xs b d))) (rises a b d le lt))) in
     ((λ j d from to. sym (same (slice_index_or xs j d)) ∙ parted.0 j d from to), (λ j d from to. sym (same (slice_index_or xs j d)) ∙ parted.1 j d from to))
 
 -- where a search ends
