@@ -11,6 +11,8 @@ pub mod TableRules
 pub mod FilesParsed
 pub mod Reading
 pub mod Texts
+pub mod Rules
+pub mod Triplicating
 pub mod Accepted
 pub mod NeverBoth
 pub mod Refused
