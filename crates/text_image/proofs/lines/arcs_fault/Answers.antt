@@ -1,0 +1,6 @@
+use Rattle.std.proofs.lemmas.List.{drop_all}
+use Rattle.text_image.proofs.First.{at_end}
+use Rattle.text_image.proofs.lines.arcs_fault.Goals as goal
+
+pub returns : goal.returns
+returns g c = at_end _ _ _ _ (drop_all _ _ c.loop-arc-test.false) c.loop-arc.invariant

@@ -1,0 +1,2 @@
+-- Words as writes.
+use Rattle.std.specs.Prelude.{ℕ}
