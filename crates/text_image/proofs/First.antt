@@ -1,7 +1,7 @@
 -- The first fault by line, of lists put together and one by one.
-use Rattle.std.proofs.Common.{◌≡◌, ℕ, ◌<◌, ◌≤◌, Bool, true, false, List, [], ◌∷◌, ◌++◌, flat_map, drop, length, Option, None, Some, refl, sym, ap, ◌∙◌, arith}
-use Rattle.std.specs.Prelude.{slice_get, nat_le, if◌then◌else◌}
-use Rattle.design_checks.specs.LineChecks.{LineFault, lower_line, lowest_line, arc_faults, word_faults, enum_faults, unknown_faults, lines_faults, section_faults_in, section_faults}
+use Rattle.std.proofs.Common.{◌≡◌, ℕ, zero, suc, ◌<◌, List, [], ◌∷◌, ◌++◌, flat_map, drop, length, Option, None, Some, refl, sym, ap, ◌∙◌, arith}
+use Rattle.std.specs.Prelude.{slice_get}
+use Rattle.design_checks.specs.LineChecks.{LineFault, lower_line, lowest_line, arc_faults, word_faults, enum_faults, unknown_faults, lines_faults, section_faults}
 use Rattle.records.specs.Grid.{Tile}
 use Rattle.records.specs.Config.{TileText}
 use Rattle.fabric.specs.Graph.{Graph}
@@ -53,12 +53,10 @@ first_of_lines g text t tile =
     ∙ (ap (λ a. first_of a (lowest_line unknowns)) (sym (lowest_of_both (arcs ++ words) enums)) ∙ sym (lowest_of_both ((arcs ++ words) ++ enums) unknowns))
 
 -- the settings of a tile that is there
-there : {X : Type 0} (xs : List X) (t : ℕ) → t < length xs → (x : X) × (slice_get xs t ≡ Some x)
-there xs t l = of_get (slice_get xs t) refl
-  where
-    of_get : (o : Option X) → slice_get xs t ≡ o → (x : X) × (slice_get xs t ≡ Some x)
-    of_get None e = absurd (let no : ⊥ = grind arith in no)
-    of_get (Some x) e = (x, e)
+pub there : {X : Type 0} (xs : List X) (t : ℕ) → t < length xs → (x : X) × (slice_get xs t ≡ Some x)
+there [] t l = absurd (let no : ⊥ = omega arith in no)
+there (x ∷ xs) zero l = (x, refl)
+there (x ∷ xs) (suc t) l = there xs t (let k : t < length xs = omega arith in k)
 
 pub in_section : (g : Graph) (text : TileText) (t : ℕ) (tile : Tile) → StandsInTiles g → tile_named g text.tile ≡ Some t → t < length g.grid.tiles → Some tile ≡ slice_get g.grid.tiles t
     → lowest_line (section_faults g text) ≡ lowest_line (lines_faults g text t tile (settings_at g t))

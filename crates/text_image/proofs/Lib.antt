@@ -1,1 +1,4 @@
 mod First
+mod Writing
+mod Standing
+mod Told

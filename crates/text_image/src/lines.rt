@@ -29,7 +29,12 @@ fn arc_fault<G: NamedGraph>(graph: &G, t: TileId, tile: &Tile, arc: &ArcLine) ->
 }
 
 // The first by line among the lines of arcs.
-fn arcs_fault<G: NamedGraph>(graph: &G, t: TileId, tile: &Tile, arcs: &[ArcLine]) -> Option<TextFault>
+fn arcs_fault<G: NamedGraph>(
+    graph: &G,
+    t: TileId,
+    tile: &Tile,
+    arcs: &[ArcLine],
+) -> Option<TextFault>
     requires { t < length (G.graph graph.now).grid.tiles }
     ensures { option_map fault_view result ≡ lowest_line (flat_map (arc_faults (G.graph graph.now) t tile.now) arcs.now) }
 {
@@ -114,7 +119,12 @@ fn unknowns_fault(tile: &Tile, unknowns: &[UnknownLine]) -> Option<TextFault>
 
 // The first by line among the lines of a section.
 #[tactic(auto, using(crate::proofs::First::first_of_lines))]
-fn lines_fault<G: NamedGraph>(graph: &G, t: TileId, tile: &Tile, text: &TileText) -> Option<TextFault>
+fn lines_fault<G: NamedGraph>(
+    graph: &G,
+    t: TileId,
+    tile: &Tile,
+    text: &TileText,
+) -> Option<TextFault>
     requires { t < length (G.graph graph.now).grid.tiles }
     ensures { option_map fault_view result ≡ lowest_line (lines_faults (G.graph graph.now) text.now t tile.now (settings_at (G.graph graph.now) t)) }
 {
@@ -137,15 +147,23 @@ fn section_fault<G: NamedGraph>(graph: &G, text: &TileText) -> Option<TextFault>
     }
 }
 
+// The first by line in all sections.
+fn sections_fault<G: NamedGraph>(graph: &G, sections: &[TileText]) -> Option<TextFault>
+    requires { StandsInTiles (G.graph graph.now) }
+    ensures { option_map fault_view result ≡ lowest_line (flat_map (section_faults (G.graph graph.now)) sections.now) }
+{
+    let mut found = None;
+    for text in sections {
+        found = earlier(found, section_fault(graph, text));
+    }
+    found
+}
+
 /// The first line of a text, by number, that names what isn't in the graph, and of equal numbers the first in written order;
 /// `None` exactly where there is none. Takes no memory.
 pub fn first_fault<G: NamedGraph>(graph: &G, config: &Config) -> Option<TextFault>
     requires { StandsInTiles (G.graph graph.now) }
     ensures { option_map fault_view result ≡ lowest_line (line_faults (G.graph graph.now) config.now) }
 {
-    let mut found = None;
-    for text in config.tiles.as_slice() {
-        found = earlier(found, section_fault(graph, text));
-    }
-    found
+    sections_fault(graph, config.tiles.as_slice())
 }

@@ -1,0 +1,10 @@
+use Rattle.std.proofs.lemmas.List.{drop_all}
+use Rattle.cram_image.specs.Image.{bits}
+use Rattle.fabric.specs.Image.{enum_writes}
+use Rattle.named_graph.specs.Standing.{settings_at}
+use Rattle.records.specs.Grid.{origin_of}
+use Rattle.text_image.proofs.Writing.{at_end}
+use Rattle.text_image.proofs.writes.write_enums.Goals as goal
+
+pub returns : goal.returns
+returns g c = at_end (enum_writes (origin_of c.args.tile.now) (settings_at (g.G.NamedGraph.graph c.args.graph.now) c.args.t)) (bits c.args.image.now) (bits c.loop-line.image) c.args.enums.now c.loop-line.line-index (drop_all c.loop-line.line-index c.args.enums.now c.loop-line-test.false) c.loop-line.invariant
