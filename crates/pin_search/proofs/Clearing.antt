@@ -1,9 +1,9 @@
 -- What a search came to is cleared.
-use Rattle.std.proofs.Common.{◌≡◌, ℕ, ◌+◌, ◌≤◌, ◌<◌, List, [], ◌∷◌, length, get_or, set, replicate, zero, suc, sym, subst, ap, ap₂, ◌∙◌, refl, arith, ◌⊎◌, inl, inr, get_or-set_same, get_or-set_other}
+use Rattle.std.proofs.Common.{◌≡◌, ℕ, ◌+◌, ◌≤◌, ◌<◌, List, [], ◌∷◌, length, get_or, set, replicate, suc, sym, subst, ap, ap₂, ◌∙◌, refl, arith, ◌⊎◌, inl, inr, get_or-set_same, get_or-set_other}
 use Rattle.std.proofs.lemmas.Bool.{cases_eq}
 use Rattle.std.proofs.lemmas.List.{length-set, length-replicate, get_or-replicate}
 use Rattle.words.specs.Members.{In}
-use Rattle.path_links.proofs.Listed.{met_at, place_of}
+use Rattle.net_links.proofs.Listed.{met_at, place_of}
 
 module _ {X : Type 0} (d limit : X) where
   same_lists : (xs ys : List X) → length xs ≡ length ys → ((i : ℕ) → i < length xs → get_or xs i d ≡ get_or ys i d) → xs ≡ ys

@@ -1,9 +1,8 @@
 -- What holds of labels and of the best label stays where they fall.
-use Rattle.std.proofs.Common.{◌≡◌, ℕ, ◌+◌, ◌*◌, ◌/◌, ◌≤◌, ◌<◌, true, List, length, get_or, sym, subst, ap, refl, arith, ◌⊎◌, inl, inr}
-use Rattle.words.specs.Members.{In}
+use Rattle.std.proofs.Common.{ℕ, ◌≤◌, ◌<◌, List, get_or, arith, inl, inr}
 use Rattle.net_links.specs.Nets.{Network, NetRules}
-use Rattle.pin_search.specs.Labels.{far, weight_in, first_in, label_by, label_of, IsTaken, GoesOn, Stands}
-use Rattle.pin_search.specs.Searches.{AtMost, Spread, Joins, IsBest, Moves, work}
+use Rattle.pin_search.specs.Labels.{far, weight_in, label_by, GoesOn, Stands}
+use Rattle.pin_search.specs.Searches.{AtMost, Spread, Joins, IsBest, Moves}
 
 pub weight_up : (a b : ℕ) → a ≤ b → weight_in a ≤ weight_in b
 weight_up a b h = omega arith

@@ -1,17 +1,17 @@
 -- What labels say once the search is over: the first of the least paths, or that there is none.
-use Rattle.std.proofs.Common.{◌≡◌, ◌≢◌, ℕ, ◌+◌, ◌*◌, ◌/◌, ◌%◌, ◌≤◌, ◌<◌, true, List, [], ◌∷◌, length, get_or, sym, subst, ap, ◌∙◌, refl, arith, ◌⊎◌, inl, inr}
-use Rattle.std.proofs.lemmas.Bool.{cases_eq, cases_lt}
+use Rattle.std.proofs.Common.{◌≡◌, ◌≢◌, ℕ, ◌+◌, ◌≤◌, ◌<◌, List, [], ◌∷◌, get_or, sym, subst, ap, refl, arith, ◌⊎◌, inl, inr}
+use Rattle.std.proofs.lemmas.Bool.{cases_eq}
 use Rattle.std.specs.declared.cmp.Ordering.TheVariants.{Less, Equal, Greater}
 use Rattle.std.specs.Ordering.{nat_cmp, ordering_then}
 use Rattle.std.specs.Cmp.{nat_cmp_is}
 use Rattle.std.specs.Cmp.Lexicographic.{slice_cmp}
 use Rattle.words.specs.Members.{In}
 use Rattle.links.specs.Links.{here, onto}
-use Rattle.paths.specs.Wiring.{IsArcOf, roads_of}
-use Rattle.paths.specs.Paths.{LeadsOn, IsPath, weight_of, IsThePath}
+use Rattle.paths.specs.Wiring.{roads_of}
+use Rattle.paths.specs.Paths.{LeadsOn, IsPath, weight_of}
 use Rattle.net_links.specs.Nets.{Network, NetRules, IsNet, rules_of}
-use Rattle.pin_search.specs.Labels.{far, arcs_end, weight_in, first_in, label_of, label_by, label_for, IsTaken, Below, GoesOn, Stands}
-use Rattle.pin_search.specs.Searches.{AtMost, Spread, Joins, IsBest, IsSearched}
+use Rattle.pin_search.specs.Labels.{far, arcs_end, weight_in, first_in, label_of, label_by, label_for, IsTaken, Below}
+use Rattle.pin_search.specs.Searches.{AtMost, IsSearched}
 use Rattle.pin_search.specs.Fronts.{Follows, HasNoPath, IsPathOfWeight}
 use Rattle.pin_search.proofs.Falling.{at_most_more, weight_up}
 use Rattle.pin_search.proofs.Taking.{weight_of_label}

@@ -1,16 +1,15 @@
 -- A label is lowered, or the best label is.
-use Rattle.std.proofs.Common.{◌≡◌, ℕ, ◌+◌, ◌*◌, ◌/◌, ◌≤◌, ◌<◌, ◌≢◌, Bool, true, false, List, [], ◌∷◌, ◌++◌, length, set, get_or, sym, subst, ap, ◌∙◌, refl, arith, ◌⊎◌, inl, inr, get_or-set_same, get_or-set_other}
-use Rattle.std.specs.List.{sum}
+use Rattle.std.proofs.Common.{◌≡◌, ℕ, ◌+◌, ◌*◌, ◌≤◌, ◌<◌, Bool, true, false, List, length, set, get_or, sym, subst, ap, ◌∙◌, arith, ◌⊎◌, inl, inr, get_or-set_same, get_or-set_other}
 use Rattle.std.proofs.lemmas.List.{length-set}
 use Rattle.std.proofs.lemmas.List.Sums.{sum_by-set}
-use Rattle.std.proofs.lemmas.Bool.{cases_eq, cases_lt, cases_Bool}
+use Rattle.std.proofs.lemmas.Bool.{cases_eq, cases_lt}
 use Rattle.words.specs.Members.{In}
 use Rattle.net_links.specs.Nets.{Network, NetRules}
 use Rattle.wire_queue.specs.Waiting.{Waits, Stay}
-use Rattle.pin_search.specs.Labels.{far, weight_in, first_in, label_by, IsTaken, Stands}
-use Rattle.pin_search.specs.Searches.{AtMost, Spread, Status, Joins, IsBest, IsMarked, IsOnce, Search, Moves, work}
+use Rattle.pin_search.specs.Labels.{far, weight_in, Stands}
+use Rattle.pin_search.specs.Searches.{Spread, Status, IsBest, IsMarked, Search, Moves}
 use Rattle.pin_search.specs.Fronts.{noted}
-use Rattle.pin_search.proofs.Touched.{at_each, Noted, is_noted}
+use Rattle.pin_search.proofs.Touched.{at_each, is_noted}
 use Rattle.pin_search.proofs.Falling.{Falls, weight_up, spread_falls, stands_falls, best_falls}
 
 pub fall_set : (labels : List ℕ) (y c : ℕ) → y < length labels → c < get_or labels y 0 → Falls labels (set labels y c)

@@ -1,7 +1,7 @@
 -- A wire leaves the queue, and how a search begins.
-use Rattle.std.proofs.Common.{◌≡◌, ◌≢◌, ℕ, ◌+◌, ◌-◌, ◌*◌, ◌/◌, ◌≤◌, ◌<◌, Bool, true, false, List, [], ◌∷◌, ◌++◌, length, set, get_or, replicate, sym, subst, ap, ◌∙◌, refl, arith, ◌⊎◌, inl, inr, get_or-set_same, get_or-set_other, cond}
+use Rattle.std.proofs.Common.{◌≡◌, ◌≢◌, ℕ, ◌-◌, ◌≤◌, ◌<◌, Bool, true, false, List, [], ◌∷◌, ◌++◌, length, set, get_or, replicate, sym, subst, ap, ◌∙◌, arith, ◌⊎◌, inl, inr, get_or-set_same, get_or-set_other, cond}
 use Rattle.std.proofs.lemmas.List.{length-set, length-replicate, get_or-replicate}
-use Rattle.std.proofs.lemmas.Bool.{cases_eq, cases_lt, cases_Bool, false≢true}
+use Rattle.std.proofs.lemmas.Bool.{cases_eq, cases_Bool, false≢true}
 use Rattle.std.specs.Prelude.{nat_lt}
 use Rattle.words.specs.Members.{In}
 use Rattle.links.specs.Links.{here}
@@ -10,7 +10,7 @@ use Rattle.wire_queue.specs.Waiting.{most, Waits, Leaves}
 use borrow.Author.Tests.{ltb-true}
 use Rattle.pin_search.specs.declared.front.Front.{Front}
 use Rattle.pin_search.specs.Fronts.{noted, IsAtRest, Keeps}
-use Rattle.pin_search.specs.Labels.{far, weight_in, first_in, Stands}
+use Rattle.pin_search.specs.Labels.{far, weight_in, Stands}
 use Rattle.pin_search.specs.Searches.{Spread, Status, IsMarked, IsOnce, Search, IsSearched}
 
 module _ (g : Network) (n : NetRules) (pin : ℕ) (labels : List ℕ) (waiting : List Bool) (queue now : List (ℕ × ℕ)) (touched : List ℕ) (best weight w : ℕ) (s : Search g n pin g.wiring.wires labels waiting queue touched best) (l : Leaves queue now weight w) where

@@ -1,6 +1,6 @@
 -- The steps of a search, as the program takes them.
-use Rattle.std.proofs.Common.{◌≡◌, ℕ, ◌+◌, ◌*◌, ◌/◌, ◌%◌, ◌≤◌, ◌<◌, ◌≢◌, Bool, true, false, List, [], ◌∷◌, ◌++◌, length, set, get_or, sym, subst, ap, ◌∙◌, refl, arith, ◌⊎◌, inl, inr, get_or-set_same, get_or-set_other, cond}
-use Rattle.std.proofs.lemmas.Bool.{cases_eq, cases_lt, cases_Bool, false≢true}
+use Rattle.std.proofs.Common.{◌≡◌, ℕ, ◌+◌, ◌*◌, ◌≤◌, ◌<◌, ◌≢◌, Bool, true, false, List, length, set, get_or, sym, subst, ap, ◌∙◌, refl, arith, ◌⊎◌, inl, inr, get_or-set_other, cond}
+use Rattle.std.proofs.lemmas.Bool.{cases_lt, cases_Bool, false≢true}
 use Rattle.words.specs.Members.{In}
 use Rattle.links.specs.Links.{here}
 use Rattle.links.proofs.Walks.{reaches_from}
@@ -11,7 +11,7 @@ use Rattle.pin_search.specs.declared.front.Front.{Front}
 use Rattle.pin_search.specs.Labels.{far, arcs_end, weight_in, first_in, label_of, label_by, IsTaken, GoesOn, Stands}
 use Rattle.pin_search.specs.Searches.{AtMost, Spread, Joins, IsBest, Search, Moves}
 use Rattle.pin_search.specs.Fronts.{Searches, Keeps, Turn, MovesTo, IsSmall, noted}
-use Rattle.pin_search.proofs.Lowering.{lowered_search, lowered_moves, best_lowered, turn_ends}
+use Rattle.pin_search.proofs.Lowering.{lowered_search, lowered_moves}
 
 pub first_of : (weight first : ℕ) → first < arcs_end → first_in (label_of weight first) ≡ first
 first_of weight first h = omega arith

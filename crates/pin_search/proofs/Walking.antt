@@ -1,5 +1,5 @@
 -- The walk along the arcs that labels name.
-use Rattle.std.proofs.Common.{◌≡◌, ℕ, ◌+◌, ◌≤◌, ◌<◌, List, [], ◌∷◌, ◌++◌, get_or, sym, subst, ap, ◌∙◌, refl, arith, append_assoc}
+use Rattle.std.proofs.Common.{◌≡◌, ℕ, ◌+◌, ◌≤◌, ◌<◌, List, [], ◌∷◌, ◌++◌, get_or, sym, subst, ap, ◌∙◌, append_assoc}
 use Rattle.net_links.specs.Nets.{Network, NetRules}
 use Rattle.pin_search.specs.Labels.{far, weight_in, first_in, IsTaken}
 use Rattle.pin_search.specs.Searches.{IsSearched}

@@ -1,12 +1,11 @@
 -- The same of what the program keeps of a search.
-use Rattle.std.specs.Prelude.{◌≡◌, ℕ, ◌+◌, ◌*◌, ◌<◌, ◌≤◌, ◌⊎◌, Bool, true, false, List, [], ◌∷◌, ◌++◌, length, slice_index, get_or, replicate, nat_lt, if◌then◌else◌}
+use Rattle.std.specs.Prelude.{◌≡◌, ℕ, ◌+◌, ◌*◌, ◌<◌, ◌≤◌, ◌⊎◌, false, List, [], ◌∷◌, ◌++◌, length, slice_index, get_or, replicate, nat_lt, if◌then◌else◌}
 use Rattle.words.specs.Members.{In}
 use Rattle.paths.specs.Wiring.{roads_of}
 use Rattle.paths.specs.Paths.{IsPath, IsThePath, weight_of}
 use Rattle.net_links.specs.Nets.{Network, NetRules, rules_of}
-use Rattle.wire_queue.specs.Waiting.{Waits, Stay}
 use Rattle.pin_search.specs.declared.front.Front.{Front}
-use Rattle.pin_search.specs.Labels.{far, IsTaken, first_in, weight_in}
+use Rattle.pin_search.specs.Labels.{far, first_in, weight_in}
 use Rattle.pin_search.specs.Searches.{Search, IsSearched, Moves}
 
 -- no wire has a label, waits or was touched, and no arc out of the tree was found

@@ -1,7 +1,6 @@
 -- Labels of wires. A label tells of a list of arcs that leads from a wire on to the pin: what it weighs, and the first
 -- of its arcs. Labels are ordered by the weight, then by the first arc: as one number, they are ordered as numbers.
 use Rattle.std.specs.Prelude.{◌≡◌, ℕ, ◌+◌, ◌*◌, ◌/◌, ◌%◌, ◌<◌, ◌≤◌, List, [], ◌∷◌, true, slice_index}
-use Rattle.words.specs.Members.{In}
 use Rattle.paths.specs.Roads.{IsBelow}
 use Rattle.paths.specs.Wiring.{IsArcOf, roads_of}
 use Rattle.paths.specs.Paths.{weight_of}

@@ -2,7 +2,6 @@
 use Rattle.std.specs.Prelude.{◌≡◌, ℕ, ◌+◌, ◌*◌, ◌<◌, ◌≤◌, ◌⊎◌, Bool, true, false, List, [], ◌∷◌, length, slice_index, get_or}
 use Rattle.std.specs.List.{sum}
 use Rattle.words.specs.Members.{In}
-use Rattle.paths.specs.Wiring.{IsArcOf}
 use Rattle.net_links.specs.Nets.{Network, NetRules}
 use Rattle.wire_queue.specs.Waiting.{Waits}
 use Rattle.pin_search.specs.Labels.{far, IsTaken, label_by, weight_in, first_in, Stands}

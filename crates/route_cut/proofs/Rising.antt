@@ -9,7 +9,7 @@ use Rattle.std.specs.List.Sorted.{IsStrictlyIncreasing, IsBinarySearchResult}
 use Rattle.std.proofs.lemmas.List.Sorted.{searched}
 use Rattle.std.proofs.lemmas.Bool.{cases_eq, cases_lt, false≢true}
 use Rattle.words.specs.Members.{In}
-use Rattle.path_links.proofs.Listed.{in_at, place_of}
+use Rattle.net_links.proofs.Listed.{in_at, place_of}
 
 -- what stands further on is no smaller
 pub rises_over : (xs : List ℕ) → IsStrictlyIncreasing xs → (i j : ℕ) → i ≤ j → j < length xs → get_or xs i 0 ≤ get_or xs j 0

@@ -1,9 +1,10 @@
 -- When a cut that is handed in shows that there is no path.
-use Rattle.std.specs.Prelude.{◌≡◌, ℕ, ◌+◌, ◌<◌, Bool, true, false, List, length, get_or, slice_index, ◌↔◌, ◌⊎◌}
+use Rattle.std.specs.Prelude.{◌≡◌, ℕ, ◌<◌, true, false, List, ◌↔◌, ◌⊎◌}
 use Rattle.std.specs.List.Sorted.{IsStrictlyIncreasing}
 use Rattle.words.specs.Members.{In}
 use Rattle.paths.specs.Wiring.{Wiring, Rules, IsArcOf, roads_of}
 use Rattle.paths.specs.Cuts.{IsCut, IsInRim}
+use Rattle.net_links.specs.Nets.{Network, NetRules}
 
 -- a cut of wires, in wire order, each once, and its rim, in wire order, each once
 pub record IsCutWithRim (g : Wiring) (r : Rules) (tree inside rim : List ℕ) (pin : ℕ) : Type 0 where
@@ -29,13 +30,23 @@ pub record IsEntered (g : Wiring) (inside : List ℕ) (w : ℕ) : Type 0 where
   pub from : In inside (g.source arc)
   pub to : g.sink arc ≡ w
 
--- what is noted of the wires of a rim from a place on: that an arc leads there from inside
-abbrev pub IsNotedWell : Wiring → List ℕ → List ℕ → ℕ → List Bool → Type 0
-IsNotedWell g inside rim from noted = (k : ℕ) → get_or noted k false ≡ true → IsEntered g inside (slice_index rim (from + k))
+-- the arc leads to a wire inside or to the rim
+abbrev pub LeadsWithin : Wiring → List ℕ → List ℕ → ℕ → Type 0
+LeadsWithin g inside rim a = In inside (g.sink a) ⊎ In rim (g.sink a)
 
-abbrev pub StayNoted : List Bool → List Bool → Type 0
-StayNoted old new = (length new ≡ length old) × ((k : ℕ) → get_or old k false ≡ true → get_or new k false ≡ true)
+-- links from the wire lead inside, and arcs from it lead inside or to the rim
+pub record StaysWithin (g : Wiring) (n : NetRules) (inside rim : List ℕ) (w : ℕ) : Type 0 where
+  pub links : (x : ℕ) → In (n.next w) x → In inside x
+  pub arcs : (a : ℕ) → In (g.outs w) a → LeadsWithin g inside rim a
 
--- where the arc leads to one of the wires, that is noted
-abbrev pub HasNoted : Wiring → List ℕ → ℕ → List Bool → ℕ → Type 0
-HasNoted g rim from noted a = (k : ℕ) → k < length noted → from + k < length rim → slice_index rim (from + k) ≡ g.sink a → get_or noted k false ≡ true
+-- one of the arcs leads from inside
+pub record SomeFrom (g : Wiring) (inside arcs : List ℕ) : Type 0 where
+  pub arc : ℕ
+  pub listed : In arcs arc
+  pub from : In inside (g.source arc)
+
+-- arcs lead from inside to the wire; the wire may not be entered, or none of them may be taken
+pub record IsShutEdge (g : Network) (n : NetRules) (inside : List ℕ) (w : ℕ) : Type 0 where
+  pub entered : SomeFrom g.wiring inside (g.ins w)
+  pub shut : n.enterable w ≡ true → (a : ℕ) → In (g.ins w) a
+      → In inside (g.wiring.source a) × (n.takes a ≡ true) → ⊥

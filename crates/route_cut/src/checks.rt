@@ -1,29 +1,21 @@
 //! The check of a cut.
 
 ghost use Rattle.std.specs.Prelude.{◌↔◌, IsTrue};
-ghost use Rattle.paths.specs.Wiring.{IsWiring};
-ghost use Rattle.path_links.specs.Together.{GoesWith};
+ghost use Rattle.net_links.specs.Nets.{IsConnection, IsNet, rules_of};
 ghost use Rattle.route_cut.specs.Checked.{IsCutWithRim};
 
 use crate::Cut;
-use crate::entered::rim_is_entered;
-use crate::kept::all_are_kept;
+use crate::edges::rim_is_shut;
+use crate::kept::all_stay;
 use crate::members::{are_below, holds_all, holds_none, is_in, is_rising};
-use path_links::{Links, PathRules};
+use net_links::PathRules;
 use rr_ids::WireId;
 
 // Whether the wires inside are a cut, in wire order, and those of the rim its rim.
-fn is_cut_with_rim<L: Links, R: PathRules>(
-    links: &L,
-    rules: &R,
-    tree: &[WireId],
-    pin: WireId,
-    inside: &[WireId],
-    rim: &[WireId],
-) -> bool
-    requires wiring { IsWiring (L.wiring links.now) }
-    requires together { GoesWith (R.wiring rules.now) (L.wiring links.now) }
-    ensures { IsTrue result ↔ IsCutWithRim (L.wiring links.now) (R.rules rules.now) tree.now inside.now rim.now pin }
+fn is_cut_with_rim<R: PathRules>(rules: &R, pin: WireId, inside: &[WireId], rim: &[WireId]) -> bool
+    requires net { IsNet (R.network rules.now) (R.rules rules.now) }
+    ensures { IsTrue result ↔ IsCutWithRim (R.network rules.now).wiring (rules_of (R.network rules.now) (R.rules rules.now))
+        (R.rules rules.now).tree inside.now rim.now pin }
 {
     if !is_rising(inside) {
         return false;
@@ -31,10 +23,13 @@ fn is_cut_with_rim<L: Links, R: PathRules>(
     if !is_rising(rim) {
         return false;
     }
-    if !are_below(inside, links.wires()) {
+    if !are_below(inside, rules.wires()) {
         return false;
     }
-    if !holds_all(inside, tree) {
+    if !are_below(rim, rules.wires()) {
+        return false;
+    }
+    if !holds_all(inside, rules.roots()) {
         return false;
     }
     if is_in(inside, pin) {
@@ -43,32 +38,19 @@ fn is_cut_with_rim<L: Links, R: PathRules>(
     if !holds_none(inside, rim) {
         return false;
     }
-    if !all_are_kept(links, rules, inside, rim) {
+    if !all_stay(rules, inside, rim) {
         return false;
     }
-    rim_is_entered(links, inside, rim)
+    rim_is_shut(rules, inside, rim)
 }
 
-/// Whether a cut shows that no path leads from the tree to the pin: true exactly where `inside` is a cut, in wire order
-/// and of wires alone, and `rim` its rim, in wire order. Takes no memory.
-pub fn check<L: Links, R: PathRules>(
-    cut: &Cut,
-    links: &L,
-    rules: &R,
-    tree: &[WireId],
-    pin: WireId,
-) -> bool
-    requires wiring { IsWiring (L.wiring links.now) }
-    requires together { GoesWith (R.wiring rules.now) (L.wiring links.now) }
-    ensures { IsTrue result ↔ IsCutWithRim (L.wiring links.now) (R.rules rules.now) tree.now cut.now.inside
-        cut.now.rim pin }
+/// Whether a cut shows that no path leads from the net's tree to the pin: true exactly where `inside` is a cut, in wire
+/// order and of wires alone, and `rim` its rim, in wire order. Goes once over the arcs out of the wires inside and over
+/// those into the rim, and takes no memory.
+pub fn check<R: PathRules>(cut: &Cut, rules: &R, pin: WireId) -> bool
+    requires connection { IsConnection (R.network rules.now) (R.rules rules.now) pin }
+    ensures { IsTrue result ↔ IsCutWithRim (R.network rules.now).wiring (rules_of (R.network rules.now) (R.rules rules.now))
+        (R.rules rules.now).tree cut.now.inside cut.now.rim pin }
 {
-    is_cut_with_rim(
-        links,
-        rules,
-        tree,
-        pin,
-        cut.inside.as_slice(),
-        cut.rim.as_slice(),
-    )
+    is_cut_with_rim(rules, pin, cut.inside.as_slice(), cut.rim.as_slice())
 }

@@ -1,104 +1,71 @@
 //! That nothing leads out of a set of wires but over the rim.
 
-ghost use Rattle.std.specs.Prelude.{◌↔◌, ◌<◌, IsTrue, ℕ};
+ghost use Rattle.std.specs.Prelude.{◌↔◌, ◌<◌, ◌⊎◌, IsTrue, ℕ};
 ghost use Rattle.std.specs.List.Sorted.{IsStrictlyIncreasing};
 ghost use Rattle.words.specs.Members.{In};
-ghost use Rattle.paths.specs.Wiring.{IsArcOf, IsWiring};
-ghost use Rattle.path_links.specs.Together.{GoesWith};
-ghost use Rattle.route_cut.specs.Checked.{IsKept, StaysIn};
+ghost use Rattle.paths.specs.Wiring.{IsArcOf};
+ghost use Rattle.net_links.specs.Nets.{IsNet};
+ghost use Rattle.route_cut.specs.Checked.{LeadsWithin, StaysWithin};
 
 use crate::members::{holds_all, is_in};
-use path_links::{Links, PathRules};
+use net_links::PathRules;
 use rr_ids::{ArcId, WireId};
 
-// Whether an arc leads inside, or can't be taken and leads to the rim.
-fn arc_stays<L: Links, R: PathRules>(
-    links: &L,
-    rules: &R,
-    inside: &[WireId],
-    rim: &[WireId],
-    a: ArcId,
-) -> bool
-    requires arc { IsArcOf (L.wiring links.now) a }
-    requires known { IsArcOf (R.wiring rules.now) a }
+// Whether an arc leads inside or to the rim.
+fn arc_stays<R: PathRules>(rules: &R, inside: &[WireId], rim: &[WireId], a: ArcId) -> bool
+    requires arc { IsArcOf (R.network rules.now).wiring a }
     requires inside_rises { IsStrictlyIncreasing inside.now }
     requires rim_rises { IsStrictlyIncreasing rim.now }
-    ensures { IsTrue result ↔ StaysIn (L.wiring links.now) (R.rules rules.now) inside.now rim.now a }
+    ensures { IsTrue result ↔ LeadsWithin (R.network rules.now).wiring inside.now rim.now a }
 {
-    let sink = links.arc(a).sink;
+    let sink = rules.arc(a).sink;
     if is_in(inside, sink) {
         return true;
-    }
-    if rules.usable(a) {
-        return false;
     }
     is_in(rim, sink)
 }
 
-// Whether all arcs from a wire lead inside, or can't be taken and lead to the rim.
-fn arcs_stay<L: Links, R: PathRules>(
-    links: &L,
-    rules: &R,
-    inside: &[WireId],
-    rim: &[WireId],
-    w: WireId,
-) -> bool
-    requires wiring { IsWiring (L.wiring links.now) }
-    requires together { GoesWith (R.wiring rules.now) (L.wiring links.now) }
-    requires wire { w < (L.wiring links.now).wires }
+// Whether all these arcs lead inside or to the rim.
+fn arcs_stay<R: PathRules>(rules: &R, inside: &[WireId], rim: &[WireId], arcs: &[ArcId]) -> bool
+    requires arcs { (a : ℕ) → In arcs.now a → IsArcOf (R.network rules.now).wiring a }
     requires inside_rises { IsStrictlyIncreasing inside.now }
     requires rim_rises { IsStrictlyIncreasing rim.now }
-    ensures { IsTrue result ↔ ((a : ℕ) → In ((L.wiring links.now).outs w) a
-        → StaysIn (L.wiring links.now) (R.rules rules.now) inside.now rim.now a) }
+    ensures { IsTrue result ↔ ((a : ℕ) → In arcs.now a
+        → LeadsWithin (R.network rules.now).wiring inside.now rim.now a) }
 {
-    let outs = links.outs(w);
-    for a in outs {
-        if !arc_stays(links, rules, inside, rim, *a) {
+    for a in arcs {
+        if !arc_stays(rules, inside, rim, *a) {
             return false;
         }
     }
     true
 }
 
-// Whether links from a wire lead inside, and its arcs do or can't be taken and lead to the rim.
-fn wire_is_kept<L: Links, R: PathRules>(
-    links: &L,
-    rules: &R,
-    inside: &[WireId],
-    rim: &[WireId],
-    w: WireId,
-) -> bool
-    requires wiring { IsWiring (L.wiring links.now) }
-    requires together { GoesWith (R.wiring rules.now) (L.wiring links.now) }
-    requires wire { w < (L.wiring links.now).wires }
+// Whether links from a wire lead inside, and its arcs do or lead to the rim.
+fn wire_stays<R: PathRules>(rules: &R, inside: &[WireId], rim: &[WireId], w: WireId) -> bool
+    requires net { IsNet (R.network rules.now) (R.rules rules.now) }
+    requires wire { w < (R.network rules.now).wiring.wires }
     requires inside_rises { IsStrictlyIncreasing inside.now }
     requires rim_rises { IsStrictlyIncreasing rim.now }
-    ensures { IsTrue result ↔ IsKept (L.wiring links.now) (R.rules rules.now) inside.now rim.now w }
+    ensures { IsTrue result ↔ StaysWithin (R.network rules.now).wiring (R.rules rules.now) inside.now rim.now w }
 {
-    let next = rules.next(w);
-    if !holds_all(inside, next) {
+    if !holds_all(inside, rules.next(w)) {
         return false;
     }
-    arcs_stay(links, rules, inside, rim, w)
+    arcs_stay(rules, inside, rim, rules.outs(w))
 }
 
 // Whether that holds of each wire inside.
-pub(crate) fn all_are_kept<L: Links, R: PathRules>(
-    links: &L,
-    rules: &R,
-    inside: &[WireId],
-    rim: &[WireId],
-) -> bool
-    requires wiring { IsWiring (L.wiring links.now) }
-    requires together { GoesWith (R.wiring rules.now) (L.wiring links.now) }
-    requires below { (w : ℕ) → In inside.now w → w < (L.wiring links.now).wires }
+pub(crate) fn all_stay<R: PathRules>(rules: &R, inside: &[WireId], rim: &[WireId]) -> bool
+    requires net { IsNet (R.network rules.now) (R.rules rules.now) }
+    requires below { (w : ℕ) → In inside.now w → w < (R.network rules.now).wiring.wires }
     requires inside_rises { IsStrictlyIncreasing inside.now }
     requires rim_rises { IsStrictlyIncreasing rim.now }
     ensures { IsTrue result ↔ ((w : ℕ) → In inside.now w
-        → IsKept (L.wiring links.now) (R.rules rules.now) inside.now rim.now w) }
+        → StaysWithin (R.network rules.now).wiring (R.rules rules.now) inside.now rim.now w) }
 {
     for w in inside {
-        if !wire_is_kept(links, rules, inside, rim, *w) {
+        if !wire_stays(rules, inside, rim, *w) {
             return false;
         }
     }

@@ -4,7 +4,7 @@
 use rr_ids::{List, WireId};
 
 mod checks;
-mod entered;
+mod edges;
 mod kept;
 mod members;
 

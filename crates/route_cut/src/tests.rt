@@ -1,5 +1,5 @@
 use crate::{Cut, check};
-use path_square::{Square, SquareRules};
+use net_square::Square;
 use rr_ids::{Id, List, WireId};
 use std::alloc::{AllocError, Global};
 use std::test::Fail;
@@ -16,12 +16,7 @@ fn wires(alloc: Global, numbers: &[u32]) -> Result<List<WireId>, AllocError> {
 #[test]
 fn a_cut_is_told_from_other_sets(rt: HostRuntime) -> Result<(), Fail> {
     let alloc = rt.alloc();
-    let links = Square::new();
-    let rules = SquareRules {
-        b: 1,
-        into_d: false,
-    };
-    let tree = [WireId::from_u32(0)];
+    let rules = Square::new(1, false);
     let pin = WireId::from_u32(3);
     let rows: [(&[u32], &[u32], bool); 8] = [
         (&[0, 1, 2], &[3], true),
@@ -38,7 +33,7 @@ fn a_cut_is_told_from_other_sets(rt: HostRuntime) -> Result<(), Fail> {
             inside: wires(alloc, inside)?,
             rim: wires(alloc, rim)?,
         };
-        assert_eq!(rt; check(&cut, &links, &rules, &tree, pin), is_cut);
+        assert_eq!(rt; check(&cut, &rules, pin), is_cut);
     }
     Ok(())
 }

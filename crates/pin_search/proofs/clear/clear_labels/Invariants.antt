@@ -1,4 +1,3 @@
-use Rattle.std.proofs.Common.{false}
 use Rattle.pin_search.specs.Labels.{far}
 use Rattle.pin_search.proofs.Clearing.{ClearTo}
 use Rattle.pin_search.proofs.clear.clear_labels.Given as goal

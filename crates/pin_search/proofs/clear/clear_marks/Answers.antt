@@ -1,6 +1,5 @@
-use Rattle.std.proofs.Common.{false, arith, ◌∙◌, ap, set, List, Bool, ℕ, ◌≡◌}
-use Rattle.path_links.proofs.Listed.{met}
-use Rattle.pin_search.specs.Labels.{far}
+use Rattle.std.proofs.Common.{false, arith}
+use Rattle.net_links.proofs.Listed.{met}
 use Rattle.pin_search.proofs.Clearing.{clear_begins, clear_more, all_clear}
 use Rattle.pin_search.proofs.clear.clear_marks.Goals as goal
 

@@ -1,5 +1,4 @@
 use Rattle.std.proofs.Common.{false}
-use Rattle.pin_search.specs.Labels.{far}
 use Rattle.pin_search.proofs.Clearing.{ClearTo}
 use Rattle.pin_search.proofs.clear.clear_marks.Given as goal
 

@@ -1,8 +1,8 @@
-use Rattle.std.proofs.Common.{◌≡◌, ℕ, ◌≤◌, ◌<◌, List, sym, subst, ap, ◌∙◌, arith, inl, inr}
+use Rattle.std.proofs.Common.{ℕ, ◌≤◌, ◌<◌, sym, subst, arith, inl, inr}
 use Rattle.std.proofs.lemmas.Bool.{cases_lt}
-use Rattle.pin_search.specs.Labels.{far, weight_in}
+use Rattle.pin_search.specs.Labels.{far}
 use Rattle.pin_search.specs.Fronts.{IsPathOfWeight}
-use Rattle.pin_search.proofs.Found.{Final, found, none_found}
+use Rattle.pin_search.proofs.Found.{found, none_found}
 use Rattle.pin_search.proofs.finding.answer.Goals as goal
 
 pub returns-then-not-is_below : goal.returns-then-not-is_below

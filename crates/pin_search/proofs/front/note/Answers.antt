@@ -1,4 +1,4 @@
-use Rattle.std.proofs.Common.{ℕ, List, [], ◌∷◌, ◌⊎◌, inl, inr, subst, sym}
+use Rattle.std.proofs.Common.{ℕ, List, [], ◌∷◌, inl, inr, subst, sym}
 use Rattle.words.specs.Members.{In}
 use Rattle.links.proofs.Members.{in_left}
 use Rattle.pin_search.proofs.Touched.{in_more}

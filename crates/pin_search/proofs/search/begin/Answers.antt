@@ -1,4 +1,4 @@
-use Rattle.std.proofs.Common.{◌≡◌, ℕ, ◌≤◌, ◌<◌, ◌⊎◌, true, false, List, Bool, [], ◌∷◌, ◌++◌, set, replicate, sym, ap, subst, ◌∙◌, refl, arith, get_or, length}
+use Rattle.std.proofs.Common.{◌≡◌, ℕ, ◌⊎◌, true, false, List, Bool, [], ◌∷◌, ◌++◌, set, replicate, sym, ap, subst, ◌∙◌, arith, get_or, length}
 use Rattle.std.proofs.lemmas.List.{length-replicate, get_or-replicate}
 use Rattle.std.proofs.lemmas.Bool.{false≢true}
 use Rattle.words.specs.Members.{In}

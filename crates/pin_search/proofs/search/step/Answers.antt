@@ -1,7 +1,6 @@
-use Rattle.std.proofs.Common.{◌≡◌, ℕ, ◌+◌, ◌*◌, ◌≤◌, ◌<◌, true, false, List, Bool, set, sym, ap, subst, ◌∙◌, refl, arith, get_or, length}
+use Rattle.std.proofs.Common.{ℕ, ◌<◌, false, List, set, sym, ap, subst, refl, arith, get_or, length}
 use Rattle.std.specs.List.{sum}
-use Rattle.pin_search.specs.Labels.{far, weight_in}
-use Rattle.pin_search.proofs.Taking.{kept}
+use Rattle.pin_search.specs.Labels.{far}
 use Rattle.pin_search.proofs.Stepping.{left_wire, passed_over, taken_out, ends_beyond, ends_empty, same_search}
 use Rattle.pin_search.proofs.search.step.Goals as goal
 

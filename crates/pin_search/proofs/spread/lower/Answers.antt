@@ -1,4 +1,4 @@
-use Rattle.std.proofs.Common.{◌≡◌, ℕ, List, Bool, refl, sym, ap, subst, ◌∙◌, arith, get_or, ◌<◌, ◌≤◌, length}
+use Rattle.std.proofs.Common.{ℕ, List, subst, get_or, ◌<◌}
 use Rattle.pin_search.proofs.Taking.{turn_taken, moves_taken, searches_keeps, kept, noted_wires}
 use Rattle.pin_search.proofs.spread.lower.Goals as goal
 

@@ -1,9 +1,8 @@
-use Rattle.std.proofs.Common.{◌≡◌, ℕ, ◌+◌, ◌*◌, ◌≤◌, ◌<◌, true, List, sym, ap, subst, ◌∙◌, arith, get_or, length, inl, inr}
+use Rattle.std.proofs.Common.{◌≡◌, ℕ, ◌≤◌, ◌<◌, List, sym, ap, subst, ◌∙◌, arith, get_or, inl, inr}
 use Rattle.std.proofs.lemmas.Bool.{cases_lt}
-use Rattle.words.specs.Members.{In}
-use Rattle.pin_search.specs.Labels.{far, weight_in, label_by, IsTaken}
+use Rattle.pin_search.specs.Labels.{far, label_by}
 use Rattle.pin_search.specs.Searches.{AtMost}
-use Rattle.pin_search.specs.Fronts.{Turn, MovesTo}
+use Rattle.pin_search.specs.Fronts.{Turn}
 use Rattle.pin_search.proofs.Falling.{at_most_falls, moves_on, stays_put}
 use Rattle.pin_search.proofs.Lowering.{turn_ends}
 use Rattle.pin_search.proofs.Taking.{spread_all, searches_keeps}

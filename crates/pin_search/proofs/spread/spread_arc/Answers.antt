@@ -1,6 +1,6 @@
-use Rattle.std.proofs.Common.{◌≡◌, ℕ, ◌+◌, ◌*◌, ◌≤◌, ◌<◌, true, List, sym, ap, subst, ◌∙◌, arith, get_or}
+use Rattle.std.proofs.Common.{◌≡◌, ℕ, ◌≤◌, ◌<◌, true, subst, arith, get_or}
 use Rattle.words.specs.Members.{In}
-use Rattle.pin_search.specs.Labels.{far, label_of, label_by, weight_in, IsTaken}
+use Rattle.pin_search.specs.Labels.{far, label_by, IsTaken}
 use Rattle.pin_search.proofs.Taking.{taken_by, stands_arc, best_joins, label_is, small_label}
 use Rattle.pin_search.proofs.Lowering.{best_lowered}
 use Rattle.pin_search.proofs.spread.spread_arc.Goals as goal

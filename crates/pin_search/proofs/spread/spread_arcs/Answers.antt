@@ -1,12 +1,11 @@
-use Rattle.std.proofs.Common.{◌≡◌, ℕ, ◌+◌, ◌*◌, ◌≤◌, ◌<◌, true, List, sym, ap, subst, ◌∙◌, arith, get_or, length}
-use Rattle.std.proofs.lemmas.Bool.{false≢true}
+use Rattle.std.proofs.Common.{◌≡◌, ℕ, true, List, sym, ap, subst, ◌∙◌, arith, get_or}
 use Rattle.words.specs.Members.{In}
-use Rattle.path_links.proofs.Listed.{met, one_more_holds, each_member}
-use Rattle.pin_search.specs.Labels.{far, weight_in, label_by, IsTaken}
+use Rattle.net_links.proofs.Listed.{met, one_more_holds, each_member}
+use Rattle.pin_search.specs.Labels.{weight_in, label_by, IsTaken}
 use Rattle.pin_search.specs.Searches.{AtMost}
-use Rattle.pin_search.specs.Fronts.{Turn, MovesTo}
+use Rattle.pin_search.specs.Fronts.{Turn}
 use Rattle.pin_search.proofs.Touched.{no_more}
-use Rattle.pin_search.proofs.Falling.{at_most_falls, moves_on, stays_put, weight_up}
+use Rattle.pin_search.proofs.Falling.{at_most_falls, moves_on, stays_put}
 use Rattle.pin_search.proofs.Taking.{enters_of}
 use Rattle.pin_search.proofs.spread.spread_arcs.Goals as goal
 

@@ -1,7 +1,7 @@
-use Rattle.std.proofs.Common.{◌≡◌, ℕ, ◌+◌, ◌*◌, ◌≤◌, ◌<◌, List, sym, ap, subst, ◌∙◌, arith, get_or, length}
+use Rattle.std.proofs.Common.{◌≡◌, ℕ, ◌<◌, List, sym, ap, subst, ◌∙◌, arith, get_or}
 use Rattle.words.specs.Members.{In}
-use Rattle.path_links.proofs.Listed.{met, one_more_holds, each_member}
-use Rattle.pin_search.specs.Labels.{far, weight_in, Stands}
+use Rattle.net_links.proofs.Listed.{met, one_more_holds, each_member}
+use Rattle.pin_search.specs.Labels.{far, Stands}
 use Rattle.pin_search.specs.Searches.{AtMost}
 use Rattle.pin_search.specs.Fronts.{Turn}
 use Rattle.pin_search.proofs.Falling.{at_most_falls, moves_on, stays_put, weight_up}

@@ -1,6 +1,6 @@
-use Rattle.std.proofs.Common.{rules, ◌≡◌, ℕ, ◌+◌, ◌-◌, ◌≤◌, ◌<◌, List, [], ◌∷◌, ◌++◌, sym, subst, ap, ◌∙◌, arith, get_or}
+use Rattle.std.proofs.Common.{rules, ◌≡◌, ℕ, ◌+◌, ◌-◌, ◌<◌, List, [], ◌++◌, sym, subst, ap, ◌∙◌, arith, get_or}
 use Rattle.std.proofs.lemmas.List.{append-nil}
-use Rattle.pin_search.specs.Labels.{far, first_in}
+use Rattle.pin_search.specs.Labels.{first_in}
 use Rattle.pin_search.specs.Fronts.{Follows}
 use Rattle.pin_search.proofs.Walking.{best_onward, label_onward, one_more}
 use Rattle.pin_search.proofs.walk.follow.Goals as goal

@@ -1,5 +1,5 @@
 use Rattle.std.proofs.Common.{◌<◌, arith}
-use Rattle.path_links.proofs.Listed.{all_hold, one_fails}
+use Rattle.net_links.proofs.Listed.{all_hold, one_fails}
 use Rattle.route_cut.proofs.members.are_below.Goals as goal
 
 pub returns-then-to_u32-count : goal.returns-then-to_u32-count

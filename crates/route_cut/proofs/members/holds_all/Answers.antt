@@ -1,7 +1,7 @@
 use Rattle.std.proofs.Common.{arith, ◌∙◌, sym}
 use Rattle.std.proofs.lemmas.Bool.{true≢false}
 use Rattle.words.specs.Members.{In}
-use Rattle.path_links.proofs.Listed.{all_hold, one_fails}
+use Rattle.net_links.proofs.Listed.{all_hold, one_fails}
 use Rattle.route_cut.proofs.members.holds_all.Goals as goal
 
 pub returns-then-not-is_in : goal.returns-then-not-is_in

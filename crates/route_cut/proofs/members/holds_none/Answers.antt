@@ -1,6 +1,6 @@
 use Rattle.std.proofs.Common.{arith}
 use Rattle.words.specs.Members.{In}
-use Rattle.path_links.proofs.Listed.{all_hold, one_fails}
+use Rattle.net_links.proofs.Listed.{all_hold, one_fails}
 use Rattle.route_cut.proofs.members.holds_none.Goals as goal
 
 pub returns-then-is_in : goal.returns-then-is_in

@@ -1,0 +1,5 @@
+pub mod Growing
+pub mod Gathered
+pub mod Sorted
+pub mod Cutting
+pub mod Cleared

@@ -1,0 +1,43 @@
+-- What is left of a list that is sorted, with each number once.
+use Rattle.std.proofs.Common.{◌≡◌, refl, Bool, true, false, ◌&&◌, ℕ, ◌↔◌, List, [], sym, subst, ◌∙◌, eqb}
+use Rattle.std.proofs.lemmas.List.{get_or_default}
+use Rattle.std.proofs.lemmas.List.Sorted.{Contains-permutation, IsPermutation-sym}
+use Rattle.std.proofs.lemmas.List.Kept.{Contains-dedup_nat, Contains-from_dedup}
+use Rattle.std.proofs.lemmas.Map.Keys.{IsStrictlyIncreasing-dedup}
+use Rattle.std.specs.List.{Contains, dedup}
+use Rattle.std.specs.List.Retain.{DiffersFromLast, IsFiltered}
+use Rattle.std.proofs.lemmas.List.Filters.{dedup_is}
+use Rattle.std.specs.declared.cmp.Ordering.{Ordering}
+use Rattle.std.specs.declared.cmp.Ordering.TheVariants.{Equal}
+use Rattle.std.specs.List.Sorted.{IsPermutation, IsSorted, IsStrictlyIncreasing}
+use Rattle.std.specs.Ordering.{nat_cmp, ordering_then}
+use Rattle.words.specs.Members.{In}
+use Rattle.net_links.proofs.Listed.{in_at, place_of}
+use Rattle.route_cut.proofs.Rising.{ends_tied}
+
+-- std's membership is ours
+in_of : (xs : List ℕ) (x : ℕ) → Contains xs x → In xs x
+in_of xs x h = let b = h.1 in let d = get_or_default xs h.0 x 0 h.1 in subst (In xs) (sym d ∙ h.2) (in_at xs h.0 h.1)
+
+of_in : (xs : List ℕ) (x : ℕ) → In xs x → Contains xs x
+of_in xs x i = let p = place_of xs x i in let d = get_or_default xs p.place x 0 p.below in (p.place, p.below, d ∙ p.is)
+
+-- the mark of the kind of a number decides nothing
+and_true : (b : Bool) → (b && true) ≡ b
+and_true true = refl
+and_true false = refl
+
+pub same_numbers : (xs ys : List ℕ) → IsFiltered (DiffersFromLast (λ x y. eqb x y && true)) [] xs ys → ys ≡ dedup eqb xs
+same_numbers xs ys h = dedup_is eqb xs ys (subst (λ (E : ℕ → ℕ → Bool). IsFiltered (DiffersFromLast E) [] xs ys) (λ i x y. and_true (eqb x y) i) h)
+
+pub sorted_numbers : (xs : List ℕ) → IsSorted (λ x y. ordering_then (nat_cmp x y) Equal) xs → IsSorted nat_cmp xs
+sorted_numbers xs h = subst (λ (f : ℕ → ℕ → Ordering). IsSorted f xs) (λ i x y. ends_tied (nat_cmp x y) i) h
+
+pub ordered_in : (xs sorted kept : List ℕ) (w : ℕ) → IsPermutation xs sorted → kept ≡ dedup eqb sorted → In kept w ↔ In xs w
+ordered_in xs sorted kept w p e = (
+  (λ i. in_of xs w (Contains-permutation sorted xs w (IsPermutation-sym xs sorted p) (Contains-from_dedup eqb sorted w (of_in (dedup eqb sorted) w (subst (λ zs. In zs w) e i))))),
+  (λ i. subst (λ zs. In zs w) (sym e) (in_of (dedup eqb sorted) w (Contains-dedup_nat sorted w (Contains-permutation xs sorted w p (of_in xs w i))))),
+)
+
+pub ordered_rising : (sorted kept : List ℕ) → IsSorted nat_cmp sorted → kept ≡ dedup eqb sorted → IsStrictlyIncreasing kept
+ordered_rising sorted kept s e = subst IsStrictlyIncreasing (sym e) (IsStrictlyIncreasing-dedup sorted s)

@@ -1,6 +1,0 @@
-use Rattle.std.proofs.Common.{ℕ, ◌<◌, get_or}
-use Rattle.route_cut.specs.Checked.{IsKept}
-use Rattle.route_cut.proofs.kept.all_are_kept.Given as goal
-
-abbrev pub invariant-loop-w : goal.invariant-loop-w
-invariant-loop-w g l = (k : ℕ) → k < l.w-index → IsKept (g.L.Links.wiring l.links) (g.R.PathRules.rules l.rules) l.inside l.rim (get_or l.inside k 0)
