@@ -1,3 +1,2 @@
 pub mod Sorts
-pub mod Rows
 pub mod Fewer

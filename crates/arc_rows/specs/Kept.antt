@@ -1,7 +1,7 @@
 -- What the lists of rows of kept arcs hold. (Our own.)
 use Rattle.std.specs.Prelude.{◌≡◌, ℕ, List, length}
 use Rattle.graph_lists.specs.ArcLists.{ArcNumbers}
-use Rattle.arc_rows.specs.ArcTable.{rows_by}
+use Rattle.place_rows.specs.PlaceRows.{rows_by}
 
 -- the rows are those of the arcs, by source, by sink and by mux
 pub record AreRowsOf (arcs : List ArcNumbers) (outs ins of_mux : List (List ℕ)) : Type 0 where

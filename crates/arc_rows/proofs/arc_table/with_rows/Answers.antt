@@ -1,6 +1,6 @@
 use Rattle.std.proofs.Common.{◌≡◌, length}
-use Rattle.arc_rows.specs.ArcTable.{rows_by}
-use Rattle.arc_rows.proofs.Rows.{rows_long, rows_own}
+use Rattle.place_rows.specs.PlaceRows.{rows_by}
+use Rattle.place_rows.proofs.RowsBy.{rows_long, rows_own}
 use Rattle.arc_rows.proofs.arc_table.with_rows.Goals as goal
 
 pub invariant_of-result : goal.invariant_of-result

@@ -2,7 +2,7 @@ use Rattle.std.proofs.Common.{◌≡◌, length, Some, ap, ◌∙◌, arith}
 use Rattle.std.specs.Prelude.{slice_get, ◌==◌}
 use Rattle.graph_lists.specs.Places.{places}
 use Rattle.arc_rows.specs.ArcTable.{ArcTable}
-use Rattle.arc_rows.proofs.Rows.{row_by}
+use Rattle.place_rows.proofs.RowsBy.{row_by}
 use Rattle.arc_rows.proofs.arc_table.ArcRows.ins.Goals as goal
 
 pub returns : goal.returns
