@@ -1,0 +1,2 @@
+pub mod ArcTable
+pub mod Kept

@@ -1,0 +1,4 @@
+pub mod Places
+pub mod ArcLists
+pub mod FixedLists
+pub mod BitLists
