@@ -1,0 +1,4 @@
+mod Lists
+mod Numbered
+mod Sorted
+mod Whole

@@ -1,0 +1,4 @@
+pub mod Numbers
+pub mod StandFor
+pub mod Graphs
+pub mod Statements
