@@ -1,6 +1,5 @@
-pub mod ByType
 pub mod InOrder
 pub mod KeyOrder
-pub mod Lists
-pub mod SameNames
 pub mod SoFar
+pub mod SameMembers
+pub mod SlotWires

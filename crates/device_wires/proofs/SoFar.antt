@@ -1,33 +1,33 @@
 -- The wires that loops have put in order so far.
-use Rattle.std.proofs.Common.{◌≡◌, ◌+◌, ◌<◌, ℕ, List, [], ◌∷◌, ◌++◌, map, length, take, drop, get_or, filter_map, Option, sym, ap, subst, ◌∙◌}
+use Rattle.std.proofs.Common.{◌≡◌, ◌+◌, ◌<◌, ℕ, List, [], ◌∷◌, ◌++◌, length, take, drop, get_or, filter_map, Option, sym, ap, subst, ◌∙◌}
 use Rattle.std.specs.Prelude.{flat_map, option_to_list, Err, IsErrOf}
-use Rattle.std.proofs.lemmas.List.{map_more, map-append, take_more, take-append-drop, append-nil}
+use Rattle.std.proofs.lemmas.List.{take_more, take-append-drop, append-nil}
 use Rattle.std.proofs.lemmas.List.Concat.{flat_map-append}
 use Rattle.std.proofs.lemmas.List.Elements.{filter_map-append}
 use Rattle.records.specs.Limits.{most_wires}
 use Rattle.fabric.specs.Wires.{Wire}
 use Rattle.device_wires.specs.Gathered.{gathered}
 use Rattle.device_wires.proofs.InOrder.{gathered-append, still_many}
-use Rattle.device_wires.proofs.Lists.{one_mapped}
+use Rattle.device_names.proofs.Lists.{one_mapped}
 
-module _ {B : Type 0} (now : B → List ℕ) (wire : List ℕ → Option Wire) (wires : List Wire) (names : List B) where
-  -- the wires of the first names
-  abbrev pub first_names : ℕ → List Wire
-  first_names i = gathered wires (filter_map wire (map now (take i names)))
+module _ {B : Type 0} (wire : B → Option Wire) (wires : List Wire) (names : List B) where
+  -- the wires of the first of them
+  abbrev pub first_wires : ℕ → List Wire
+  first_wires i = gathered wires (filter_map wire (take i names))
 
-  -- one name more
-  pub name_more : (i : ℕ) (d : B) → i < length names → gathered (first_names i) (option_to_list (wire (now (get_or names i d)))) ≡ first_names (i + 1)
-  name_more i d h =
-      let all = ap (filter_map wire) (map_more now names i d h) ∙ filter_map-append wire (map now (take i names)) (now (get_or names i d) ∷ []) in
-      ap (gathered (first_names i)) (sym (one_mapped wire (now (get_or names i d))))
-      ∙ sym (gathered-append wires (filter_map wire (map now (take i names))) (filter_map wire (now (get_or names i d) ∷ [])))
+  -- one more
+  pub wire_more : (i : ℕ) (d : B) → i < length names → gathered (first_wires i) (option_to_list (wire (get_or names i d))) ≡ first_wires (i + 1)
+  wire_more i d h =
+      let all = ap (filter_map wire) (take_more names i d h) ∙ filter_map-append wire (take i names) (get_or names i d ∷ []) in
+      ap (gathered (first_wires i)) (sym (one_mapped wire (get_or names i d)))
+      ∙ sym (gathered-append wires (filter_map wire (take i names)) (filter_map wire (get_or names i d ∷ [])))
       ∙ ap (gathered wires) (sym all)
 
   -- what is too much so far is too much in the end
-  pub many_names : (i : ℕ) → most_wires < length (first_names i) → most_wires < length (gathered wires (filter_map wire (map now names)))
-  many_names i many =
-      let parts = sym (filter_map-append wire (map now (take i names)) (map now (drop i names))) ∙ ap (filter_map wire) (sym (map-append now (take i names) (drop i names)) ∙ ap (map now) (take-append-drop i names)) in
-      subst (λ named. most_wires < length (gathered wires named)) parts (still_many wires (filter_map wire (map now (take i names))) (filter_map wire (map now (drop i names))) many)
+  pub many_wires : (i : ℕ) → most_wires < length (first_wires i) → most_wires < length (gathered wires (filter_map wire names))
+  many_wires i many =
+      let parts = sym (filter_map-append wire (take i names) (drop i names)) ∙ ap (filter_map wire) (take-append-drop i names) in
+      subst (λ named. most_wires < length (gathered wires named)) parts (still_many wires (filter_map wire (take i names)) (filter_map wire (drop i names)) many)
 
 module _ {T : Type 0} (named : T → List Wire) (tiles : List T) where
   -- the wires of the first tiles

@@ -1,6 +1,5 @@
-pub mod Types
 pub mod Keys
-pub mod TileNames
 pub mod Gathered
 pub mod Named
 pub mod Errors
+pub mod Slots

@@ -8,14 +8,17 @@ ghost use Rattle.fabric.specs.WireNames.{Named};
 ghost use Rattle.fabric.specs.Wires.{wire_cmp};
 ghost use Rattle.wire_names.specs.Kept.{number_of_name};
 ghost use Rattle.wire_names.specs.LentNames.{wire_name};
+ghost use Rattle.tile_types.specs.Types.{AreTypesOf};
 ghost use Rattle.device_wires.specs.Named.{named_wires, NamesTooMany};
 
+use crate::WiresError;
 use crate::gather::gather;
-use crate::{Device, WiresError};
+use device_names::Device;
 use rr_ids::{Name, Rules, WireId};
 use std::alloc::Global;
 use std::marker::Model;
 use tile_grid::Tile;
+use tile_types::TileTypes;
 use wire_names::{Names, WireName, place};
 
 /// Wires in wire order, each once, under numbers from 0: local wires before wide ones, local ones by row, column, then
@@ -80,7 +83,22 @@ pub fn wires_of(alloc: Global, device: &Device<'_>) -> Result<Wires, WiresError>
     ensures few { IfOk result (λ wires. length wires ≤ most_wires) }
     ensures too_many { IsErrOf result WiresError.TooMany → NamesTooMany device.now }
 {
-    let gathered = gather(alloc, device)?;
+    let types = TileTypes::of(alloc, device)?;
+    wires_with(alloc, device, &types)
+}
+
+/// The wires that a device names, as `wires_of` gives them, from the types of its tiles.
+pub fn wires_with(
+    alloc: Global,
+    device: &Device<'_>,
+    types: &TileTypes<'_>,
+) -> Result<Wires, WiresError>
+    requires { AreTypesOf device.now types.now }
+    ensures ok { IfOk result (λ wires. InOrderOnce wire_cmp (named_wires device.now) wires) }
+    ensures few { IfOk result (λ wires. length wires ≤ most_wires) }
+    ensures too_many { IsErrOf result WiresError.TooMany → NamesTooMany device.now }
+{
+    let gathered = gather(alloc, device, types)?;
     let names = gathered.numbered(alloc)?;
     let count = gathered.len();
     Ok(Wires { names, count })

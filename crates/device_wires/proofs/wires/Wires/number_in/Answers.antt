@@ -2,7 +2,7 @@ use Rattle.std.proofs.Common.{◌≡◌, Some, ap, ◌∙◌, sym}
 use Rattle.records.specs.Grid.{Tile}
 use Rattle.fabric.specs.WireOfName.{wire_of_name}
 use Rattle.wire_names.specs.Kept.{number_of_name}
-use Rattle.device_wires.proofs.SameNames.{number_at_place}
+use Rattle.device_names.proofs.SameNames.{number_at_place}
 use Rattle.device_wires.proofs.wires.Wires.number_in.Goals as goal
 
 pub returns : goal.returns

@@ -1,0 +1,3 @@
+pub mod ByType
+pub mod Lists
+pub mod SameNames

@@ -1,0 +1,2 @@
+pub mod InTiles
+pub mod RowsMore

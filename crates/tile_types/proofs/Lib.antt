@@ -1,0 +1,3 @@
+pub mod Borrowed
+pub mod OfTiles
+pub mod Zipped
