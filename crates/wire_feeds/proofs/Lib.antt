@@ -1,0 +1,4 @@
+pub mod Noting
+pub mod Beginning
+pub mod Spreading
+pub mod Ended
