@@ -3,6 +3,7 @@ use Rattle.std.proofs.Common.{◌≡◌, ℕ, zero, suc, ◌+◌, ◌<◌, ◌�
 use Rattle.std.specs.Prelude.{◌==◌}
 use Rattle.std.specs.List.{range_with_len}
 use Rattle.std.specs.declared.cmp.Ordering.TheVariants.{Less}
+use Rattle.std.specs.Ordering.{nat_cmp}
 use Rattle.std.specs.Cmp.{IsTotalOrder, nat_cmp_total, on_total, then_total}
 use Rattle.std.proofs.lemmas.Bool.{eq-eqb}
 use Rattle.std.proofs.lemmas.Bool.{cases_eq}
@@ -16,6 +17,8 @@ use Rattle.fabric.specs.Links.{arcs_of_mux}
 use Rattle.fabric.specs.MuxBits.{bit_cmp, bits_named, mux_bits}
 use Rattle.fabric_laws.proofs.Members.{in_filter_from, in_filter_to, any_from, any_to}
 use Rattle.fabric_laws.proofs.SameBits.{same_is, same_refl}
+use Rattle.std.proofs.lemmas.List.{map-id}
+use Rattle.graph_lists.proofs.Listed.{less_is, rising_map_filter}
 use Rattle.graph_lists.specs.ArcLists.{numbers_of, numbers_cmp}
 use Rattle.graph_lists.specs.BitLists.{bits_in, muxes_of_bit}
 
@@ -43,6 +46,16 @@ range_to a (suc n) i low high = elim (cases_eq a i) [
   | inl e ↦ inl e
   | inr d ↦ inr (range_to (a + 1) n i (omega arith) (omega arith))
 ]
+
+pub range_rises : (a n : ℕ) → IsRising nat_cmp (range_with_len a n)
+range_rises a zero = tt
+range_rises a (suc n) = ((λ i h. let later = range_from (a + 1) n i h in less_is a i (omega (arith, later.0))), range_rises (a + 1) n)
+
+-- the muxes of a bit rise
+pub muxes_rise : (g : Graph) (b : DeviceBit) → IsRising nat_cmp (muxes_of_bit g b)
+muxes_rise g b =
+    subst (IsRising nat_cmp) (map-id (muxes_of_bit g b))
+    (rising_map_filter nat_cmp nat_cmp (λ m. bits_of_list (bits_in g m) b) (λ (m : ℕ). m) (λ x y here there less. less) (range_with_len 0 (length g.muxes)) (range_rises 0 (length g.muxes)))
 
 module _ (g : Graph) (b : DeviceBit) where
   pub mux_from : (m : ℕ) → In (muxes_of_bit g b) m → (m < length g.muxes) × In (bits_in g m) b

@@ -48,7 +48,8 @@ rising_map_filter {X} {Y} cmp other p f step (x ∷ xs) rising = go (p x) refl (
     go true e rest = (later e, rest)
     go false e rest = rest
 
-not_before : {X : Type 0} (xs : List X) (n i : ℕ) (x : X) → In (enumerate_from n xs) (i, x) → n ≤ i
+-- no number of a list is below its start
+pub not_before : {X : Type 0} (xs : List X) (n i : ℕ) (x : X) → In (enumerate_from n xs) (i, x) → n ≤ i
 not_before [] n i x h = absurd h
 not_before (y ∷ ys) n i x h = elim h [
   | inl e ↦ (let same : n ≡ i = ap (λ p. p.0) e in omega arith)

@@ -1,6 +1,7 @@
 use Rattle.std.proofs.Common.{arith}
 use Rattle.graph_lists.specs.ArcLists.{numbers_cmp}
-use Rattle.arc_rows.proofs.Fewer.{not_more, numbers_tied}
+use Rattle.graph_lists.proofs.Fewer.{not_more}
+use Rattle.arc_rows.proofs.Tied.{numbers_tied}
 use Rattle.arc_rows.proofs.arc_table.ArcRows.new.Goals as goal
 
 pub with_rows-requires-clause-few : goal.with_rows-requires-clause-few

@@ -6,9 +6,6 @@ use Rattle.words.specs.Members.{In}
 use Rattle.words.specs.Twice.{HasNoneTwice}
 use Rattle.links.proofs.Members.{in_left, in_right, in_either}
 use Rattle.fabric.specs.InOrder.{InOrderOnce, IsRising}
-use Rattle.graph_lists.specs.ArcLists.{ArcNumbers, numbers_cmp}
-use Rattle.graph_lists.proofs.Listed.{equal_is}
-use Rattle.arc_rows.specs.ArcTable.{source_order}
 
 module _ {X : Type 0} where
   -- what stands before an element and behind it
@@ -38,9 +35,3 @@ module _ {X : Type 0} where
 
   pub not_more : (cmp : X → X → Ordering) → ((x : X) → cmp x x ≡ Equal) → (named xs : List X) → InOrderOnce cmp named xs → length xs ≤ length named
   not_more cmp tied named xs are = fewer xs named (once cmp tied xs are.rising) (λ x i. (are.members x).0 i)
-
-pub source_tied : (a : ArcNumbers) → source_order a a ≡ Equal
-source_tied a = rw (equal_is a.source a.source refl, equal_is a.mux a.mux refl, equal_is a.place a.place refl) refl
-
-pub numbers_tied : (a : ArcNumbers) → numbers_cmp a a ≡ Equal
-numbers_tied a = rw (equal_is a.sink a.sink refl, equal_is a.source a.source refl, equal_is a.mux a.mux refl, equal_is a.place a.place refl) refl

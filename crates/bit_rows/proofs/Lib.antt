@@ -1,0 +1,5 @@
+pub mod DigitOrder
+pub mod Rising
+pub mod Numbering
+pub mod Inverse
+pub mod Found

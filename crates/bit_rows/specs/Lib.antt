@@ -1,0 +1,3 @@
+pub mod MuxBits
+pub mod Digits
+pub mod Numbered

@@ -1,0 +1,3 @@
+pub mod MuxOrder
+pub mod ArcRows
+pub mod BitRows
