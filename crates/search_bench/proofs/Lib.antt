@@ -1,0 +1,4 @@
+pub mod Filled
+pub mod Rounds
+pub mod Connected
+pub mod Trees
