@@ -9,7 +9,7 @@ use std::marker::Model;
 
 /// A bit of a pattern, counted from the place where its tile's bits begin: a plain bit where `set` is
 /// true, else one that must be 0.
-#[derive(Clone, Copy, Debug, PartialEq, Eq, PartialOrd, Ord, Default, Hash)]
+#[derive(Clone, Copy, Debug, PartialEq, Eq, Default)]
 pub struct PatternBit {
     pub frame: u16,
     pub bit: u16,
