@@ -4,17 +4,23 @@ use anyhow::Result;
 use bits_db::{DbError, EnumSetting, Mux, Pattern, TileDb, WordSetting};
 use case_tables::{fault, plain_fault, push_line, push_word};
 use std::alloc::Global;
+use text_cut::PatternBit;
+
+// Adds a bit as it is spelled.
+fn push_bit(alloc: Global, text: &mut Vec<u8>, bit: &PatternBit) -> Result<()> {
+    let sign = if bit.set { "" } else { "!" };
+    let word = format!(in alloc; "{sign}F{}B{}", bit.frame, bit.bit)?;
+    push_word(text, word.as_bytes())
+}
 
 // Adds the bits of a copy of a pattern, or `-`.
 fn push_bits(alloc: Global, text: &mut Vec<u8>, bits: &Pattern) -> Result<()> {
     let copied = bits.copy()?;
     if copied.is_empty() {
-        push_word(text, b"-")?;
+        return push_word(text, b"-");
     }
     for bit in copied.as_slice() {
-        let sign = if bit.set { "" } else { "!" };
-        let word = format!(in alloc; "{sign}F{}B{}", bit.frame, bit.bit)?;
-        push_word(text, word.as_bytes())?;
+        push_bit(alloc, text, bit)?;
     }
     Ok(())
 }
