@@ -5,7 +5,7 @@ use rr_ids::{List, Name};
 use std::marker::Model;
 
 /// A programmable connection from a source, made where its bits stand in the image.
-#[derive(Debug, Drop)]
+#[derive(Drop)]
 pub struct Arc {
     pub source: Name,
     pub bits: Pattern,
@@ -20,7 +20,7 @@ impl Model for Arc {
 }
 
 /// The arcs that may drive a sink, in file order.
-#[derive(Debug, Drop)]
+#[derive(Drop)]
 pub struct Mux {
     pub sink: Name,
     pub arcs: List<Arc>,
@@ -35,7 +35,7 @@ impl Model for Mux {
 }
 
 /// A word of configuration bits, a pattern for each, the lowest first.
-#[derive(Debug, Drop)]
+#[derive(Drop)]
 pub struct WordSetting {
     pub name: Name,
     pub bits: List<Pattern>,
@@ -50,7 +50,7 @@ impl Model for WordSetting {
 }
 
 /// A value of an enum, and the bits that stand for it.
-#[derive(Debug, Drop)]
+#[derive(Drop)]
 pub struct EnumOption {
     pub value: Name,
     pub bits: Pattern,
@@ -65,7 +65,7 @@ impl Model for EnumOption {
 }
 
 /// A setting with named values, in file order.
-#[derive(Debug, Drop)]
+#[derive(Drop)]
 pub struct EnumSetting {
     pub name: Name,
     pub default: Option<Name>,
@@ -81,7 +81,7 @@ impl Model for EnumSetting {
 }
 
 /// A connection that is always there.
-#[derive(Debug, Drop)]
+#[derive(Drop)]
 pub struct Fixed {
     pub sink: Name,
     pub source: Name,
@@ -96,7 +96,7 @@ impl Model for Fixed {
 }
 
 /// What a database says of its tile type, each list in file order.
-#[derive(Debug, Drop)]
+#[derive(Drop)]
 pub struct TileDb {
     pub muxes: List<Mux>,
     pub words: List<WordSetting>,

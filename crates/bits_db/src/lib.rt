@@ -27,9 +27,6 @@ pub use database::{Arc, EnumOption, EnumSetting, Fixed, Mux, TileDb, WordSetting
 pub use error::DbError;
 pub use pattern::Pattern;
 
-#[cfg(test)]
-mod tests;
-
 // What is read behind all lines.
 fn read_all<'a>(alloc: Global, bytes: &'a [u8]) -> Result<Reader<'a>, DbError>
     ensures { OrMemory reading_view fault_of result (read_lines nothing_read (lines_of bytes.now)) }

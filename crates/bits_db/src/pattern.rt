@@ -11,7 +11,7 @@ use text_cut::PatternBit;
 pub(crate) const MOST_BITS: usize = 32;
 
 /// The bits of a pattern in the order in which a line names them. Four are kept inline.
-#[derive(Debug, Drop)]
+#[derive(Drop)]
 pub struct Pattern {
     bits: SmallVec<PatternBit, 4>,
 }

@@ -26,9 +26,6 @@ pub use errors::ConfigError;
 pub use printer::print;
 pub use types::{ArcLine, Config, EnumLine, Head, TileText, UnknownLine, WordLine};
 
-#[cfg(test)]
-mod tests;
-
 // What is read behind all lines.
 fn read_all<'a>(alloc: Global, bytes: &'a [u8]) -> Result<Reader<'a>, ConfigError>
     ensures whole { OrMemory reading_view fault_of result (read_lines nothing_read (lines_of bytes.now)) }

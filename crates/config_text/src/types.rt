@@ -5,7 +5,7 @@ use std::marker::Model;
 
 /// A line with no meaning for the circuit, kept as text: `.comment`, `.sysconfig` or `.variant`, from its first word to
 /// the end of its last.
-#[derive(Debug, Drop)]
+#[derive(Drop)]
 pub struct Head {
     pub text: Text,
 }
@@ -19,7 +19,7 @@ impl Model for Head {
 }
 
 /// The line of an arc, and its number from 1.
-#[derive(Debug, Drop)]
+#[derive(Drop)]
 pub struct ArcLine {
     pub sink: Name,
     pub source: Name,
@@ -35,7 +35,7 @@ impl Model for ArcLine {
 }
 
 /// The line of a word, with its bits, the lowest first.
-#[derive(Debug, Drop)]
+#[derive(Drop)]
 pub struct WordLine {
     pub name: Name,
     pub bits: List<bool>,
@@ -51,7 +51,7 @@ impl Model for WordLine {
 }
 
 /// The line of an enum.
-#[derive(Debug, Drop)]
+#[derive(Drop)]
 pub struct EnumLine {
     pub name: Name,
     pub value: Name,
@@ -86,7 +86,7 @@ impl Model for UnknownLine {
 
 /// The section of a tile: the number of its first line, and its lines by kind. Arcs stand in byte order of their
 /// lines, each once, and all others in input order.
-#[derive(Debug, Drop)]
+#[derive(Drop)]
 pub struct TileText {
     pub tile: Name,
     pub line: u32,
@@ -105,7 +105,7 @@ impl Model for TileText {
 }
 
 /// A text configuration: heads in input order, and sections in byte order of their tiles' names.
-#[derive(Debug, Drop)]
+#[derive(Drop)]
 pub struct Config {
     pub device: Name,
     pub heads: List<Head>,

@@ -7,6 +7,3 @@ mod word;
 
 pub use image::Image;
 pub use laws::{bits_are_members, same_members_are_same_bits};
-
-#[cfg(test)]
-mod tests;

@@ -21,8 +21,6 @@ mod known;
 mod line;
 mod number;
 mod pattern;
-#[cfg(test)]
-mod tests;
 mod word;
 
 pub use known::KnownNames;

@@ -8,7 +8,7 @@ use super::word::Words;
 use std::marker::Model;
 
 /// A line of a source, without its line feed and the carriage return before it.
-#[derive(Clone, Copy, Debug, PartialEq, Eq)]
+#[derive(Clone, Copy)]
 pub struct Line<'a> {
     /// The line's number, from 1. A number that would pass the type's end stands at it.
     pub number: u32,
@@ -47,7 +47,7 @@ impl<'a> Line<'a> {
 }
 
 /// The lines of a source that are left, in order.
-#[derive(Debug, Drop)]
+#[derive(Drop)]
 pub struct Lines<'a> {
     number: u32,
     start: usize,

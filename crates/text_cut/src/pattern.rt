@@ -1,15 +1,15 @@
 //! The bits of a pattern.
 
-ghost use Rattle.std.specs.Prelude.{◌≡◌};
+ghost use Rattle.std.specs.Prelude.{◌≡◌, ◌≤◌, length};
+ghost use Rattle.std.specs.List.{position_or_len};
 ghost use Rattle.texts.specs.PatternBits.{bit_behind_f as bit_behind_f_of, pattern_bit_of, is_b};
 
 use super::number::number_up_to;
-use super::place_or_len;
 use std::marker::Model;
 
 /// A bit of a pattern, counted from the place where its tile's bits begin: a plain bit where `set` is
 /// true, else one that must be 0.
-#[derive(Clone, Copy, Debug, PartialEq, Eq, PartialOrd, Ord, Default, Hash)]
+#[derive(Clone, Copy, Debug, PartialEq, Eq, Default)]
 pub struct PatternBit {
     pub frame: u16,
     pub bit: u16,
@@ -42,7 +42,7 @@ pub fn pattern_bit(word: &[u8]) -> Option<PatternBit>
 fn bit_behind_f(set: bool, rest: &[u8]) -> Option<PatternBit>
     ensures { result ≡ bit_behind_f_of set rest.now }
 {
-    let end = place_or_len(b'B', rest);
+    let end = b_place(rest);
     if end == rest.len() {
         return None;
     }
@@ -55,4 +55,18 @@ fn bit_behind_f(set: bool, rest: &[u8]) -> Option<PatternBit>
         bit: bit as u16,
         set,
     })
+}
+
+// The place of the first `B`, or the length where there is none. A word is so short that a search by blocks of bytes costs
+// more than one byte by byte.
+fn b_place(text: &[u8]) -> usize
+    ensures place { result ≡ position_or_len is_b text.now }
+    ensures within { result ≤ length text.now }
+{
+    for (i, byte) in text.iter().enumerate() {
+        if *byte == b'B' {
+            return i;
+        }
+    }
+    text.len()
 }

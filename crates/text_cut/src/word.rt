@@ -8,7 +8,7 @@ ghost use Rattle.texts.specs.Words.{is_blank as is_blank_byte, has_bytes};
 use std::marker::Model;
 
 /// A word of a line.
-#[derive(Clone, Copy, Debug, PartialEq, Eq)]
+#[derive(Clone, Copy)]
 pub struct Word<'a> {
     /// The place of the word's first byte in the source.
     pub start: usize,
@@ -17,7 +17,7 @@ pub struct Word<'a> {
 }
 
 /// The words of a line that are left, in order.
-#[derive(Debug, Drop)]
+#[derive(Drop)]
 pub struct Words<'a> {
     start: usize,
     rest: &'a [u8],

@@ -16,6 +16,3 @@ pub use names::{Names, NamesError};
 pub use relative::Relative;
 pub use slot::Slot;
 pub use wire::{WireName, place};
-
-#[cfg(test)]
-mod tests;
