@@ -1,4 +1,4 @@
--- What is known of names, and what a judge knows of the kinds before.
+-- What a judge knows of the kinds before.
 use Rattle.std.specs.Prelude.{◌≡◌, ℕ, List, Option, length, map, find}
 use Rattle.std.specs.Ordering.{nat_cmp, ordering_then}
 use Rattle.std.specs.Option.{option_map}
@@ -8,14 +8,9 @@ use Rattle.std.specs.Cmp.Lexicographic.{slice_cmp}
 use Rattle.std.specs.Set.{is_member}
 use Rattle.std.specs.Str.{bytes_eq}
 use Rattle.std.specs.declared.cmp.Ordering.{Ordering}
-use denote.Ref.{Bor}
 use Rattle.records.specs.Profile.{SliceKind}
 use Rattle.json_forms.specs.KindRules.{KindName, same_kind}
 use Rattle.cell_profile.specs.declared.known.Counts.{Counts}
-
--- the set holds just the names of the list
-abbrev pub HoldsNames : List (List ℕ) → BTreeSet (Bor (List ℕ)) → Type 0
-HoldsNames names set = (q : Bor (List ℕ)) → contains (λ a b. slice_cmp nat_cmp a.now b.now) set q ≡ is_member bytes_eq names q.now
 
 -- kinds by their tile types, and then by their names
 abbrev pub name_order : KindName → KindName → Ordering

@@ -18,7 +18,7 @@ use std::marker::Model;
 
 /// A case of a choice: what is taken at a value, or always where the choice has no setting. Contracts see the
 /// record of the fields.
-#[derive(Debug, Drop)]
+#[derive(Drop)]
 pub struct Case {
     pub value: Option<Name>,
     pub take: Take,
@@ -35,7 +35,7 @@ impl Model for Case {
 
 /// What is taken by the value of a setting, or always where there is no setting; of cases with one value the first
 /// counts. Contracts see the record of the fields.
-#[derive(Debug, Drop)]
+#[derive(Drop)]
 pub struct Choice {
     pub setting: Option<Name>,
     pub cases: List<Case>,

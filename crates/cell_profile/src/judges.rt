@@ -6,10 +6,10 @@ ghost use Rattle.json_forms.specs.Profile.{slice_verdict, pad_verdict};
 ghost use Rattle.cell_profile.specs.Known.{KnowsNames, KnowsShapes};
 
 use crate::known::{KindNames, Shapes, add_name, fits_shape, names_of_slices};
-use crate::name_set::NameSet;
 use crate::rules::{pad_stands, parts_fit, slice_stands};
 use crate::{PadKind, SliceKind};
 use json_values::{Judge, Verdict};
+use name_sets::NameSet;
 use rr_ids::{Limit, Name};
 use std::alloc::{AllocError, Global};
 

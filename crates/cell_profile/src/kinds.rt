@@ -19,7 +19,7 @@ use std::alloc::Global;
 use std::marker::Model;
 
 /// A connection of a tile type that is always there. Contracts see the record of the fields.
-#[derive(Debug, Drop)]
+#[derive(Drop)]
 pub struct Join {
     pub tile: Name,
     pub sink: Name,
@@ -51,7 +51,7 @@ impl FromJson for Join {
 }
 
 /// An enum and the value that it must have. Contracts see the record of the fields.
-#[derive(Debug, Drop)]
+#[derive(Drop)]
 pub struct Require {
     pub setting: Name,
     pub value: Name,
@@ -81,7 +81,7 @@ impl FromJson for Require {
 }
 
 /// A table: its word, its pins from number 0 on, and its output. Contracts see the record of the fields.
-#[derive(Debug, Drop)]
+#[derive(Drop)]
 pub struct TableKind {
     pub word: Name,
     pub pins: List<Name>,
@@ -121,7 +121,7 @@ impl FromJson for TableKind {
 }
 
 /// A register; `input` is its data. Contracts see the record of the fields.
-#[derive(Debug, Drop)]
+#[derive(Drop)]
 pub struct RegisterKind {
     pub input: Choice,
     pub enable: Choice,
@@ -167,7 +167,7 @@ impl FromJson for RegisterKind {
 
 /// A kind of slice: a tile type, a name in it, a shape, the settings that count for it, the enums that must have a
 /// value, and its tables and registers. Contracts see the record of the fields.
-#[derive(Debug, Drop)]
+#[derive(Drop)]
 pub struct SliceKind {
     pub tile: Name,
     pub name: Name,
@@ -207,7 +207,7 @@ impl FromJson for SliceKind {
 
 /// A kind of pad: a tile type, a name in it, the settings that count for it, its mode, and its wires where it has
 /// them. Contracts see the record of the fields.
-#[derive(Debug, Drop)]
+#[derive(Drop)]
 pub struct PadKind {
     pub tile: Name,
     pub name: Name,

@@ -16,7 +16,7 @@ use std::collections::{BTreeMap, BTreeSet};
 pub(crate) type KindNames = BTreeSet<(Name, Name)>;
 
 /// The counts of a slice kind: its settings, the pins of each table, and its registers.
-#[derive(Debug, Drop)]
+#[derive(Drop)]
 pub(crate) struct Counts {
     settings: usize,
     pins: List<usize>,

@@ -6,7 +6,6 @@ mod errors;
 mod judges;
 mod kinds;
 mod known;
-mod name_set;
 mod profile;
 mod rules;
 mod takes;
@@ -16,6 +15,3 @@ pub use errors::ProfileError;
 pub use kinds::{Join, PadKind, RegisterKind, Require, SliceKind, TableKind};
 pub use profile::{Profile, read};
 pub use takes::Take;
-
-#[cfg(test)]
-mod tests;

@@ -22,7 +22,7 @@ use std::marker::Model;
 
 /// A cell profile: how names of wires are read, the connections that are always there, and the kinds of slices and
 /// pads. Contracts see the record of the fields.
-#[derive(Debug, Drop)]
+#[derive(Drop)]
 pub struct Profile {
     pub rules: Rules,
     pub joins: List<Join>,

@@ -8,8 +8,8 @@ ghost use Rattle.std.specs.Str.{bytes_eq};
 ghost use Rattle.json_forms.specs.KindRules as rules;
 ghost use Rattle.cell_profile.specs.Takes.{take_of};
 
-use crate::name_set::NameSet;
 use crate::{Case, Choice, PadKind, RegisterKind, Require, SliceKind, TableKind, Take};
+use name_sets::NameSet;
 use rr_ids::Name;
 use std::alloc::{AllocError, Global};
 
@@ -38,25 +38,34 @@ fn register_settings_stand(settings: &NameSet<'_>, register: &RegisterKind) -> b
 fn all_registers_stand(settings: &NameSet<'_>, registers: &[RegisterKind]) -> bool
     ensures { result ≡ list_all (rules.register_settings_pass (is_member bytes_eq settings.now)) registers.now }
 {
-    registers
-        .iter()
-        .all(|register| register_settings_stand(settings, register))
+    for register in registers {
+        if !register_settings_stand(settings, register) {
+            return false;
+        }
+    }
+    true
 }
 
 fn requirements_stand(settings: &NameSet<'_>, requirements: &[Require]) -> bool
     ensures { result ≡ list_all (λ require. is_member bytes_eq settings.now require.setting) requirements.now }
 {
-    requirements
-        .iter()
-        .all(|require| settings.contains(require.setting.bytes()))
+    for require in requirements {
+        if !settings.contains(require.setting.bytes()) {
+            return false;
+        }
+    }
+    true
 }
 
 fn words_stand(settings: &NameSet<'_>, tables: &[TableKind]) -> bool
     ensures { result ≡ list_all (λ table. is_member bytes_eq settings.now table.word) tables.now }
 {
-    tables
-        .iter()
-        .all(|table| settings.contains(table.word.bytes()))
+    for table in tables {
+        if !settings.contains(table.word.bytes()) {
+            return false;
+        }
+    }
+    true
 }
 
 // Whether the settings that a slice kind names are among these.
@@ -80,7 +89,12 @@ fn is_own_wire(other_chips: &NameSet<'_>, wire: &Name) -> bool
 fn are_own_wires(other_chips: &NameSet<'_>, wires: &[Name]) -> bool
     ensures { result ≡ list_all (rules.is_own_wire other_chips.now) wires.now }
 {
-    wires.iter().all(|wire| is_own_wire(other_chips, wire))
+    for wire in wires {
+        if !is_own_wire(other_chips, wire) {
+            return false;
+        }
+    }
+    true
 }
 
 fn take_wire_is_own(other_chips: &NameSet<'_>, take: &Take) -> bool
@@ -96,11 +110,13 @@ fn take_wire_is_own(other_chips: &NameSet<'_>, take: &Take) -> bool
 fn choice_wires_are_own(other_chips: &NameSet<'_>, choice: &Choice) -> bool
     ensures { result ≡ rules.choice_wires_pass (rules.is_own_wire other_chips.now) choice.now }
 {
-    choice
-        .cases
-        .as_slice()
-        .iter()
-        .all(|case| take_wire_is_own(other_chips, &case.take))
+    let cases = choice.cases.as_slice();
+    for case in cases {
+        if !take_wire_is_own(other_chips, &case.take) {
+            return false;
+        }
+    }
+    true
 }
 
 fn table_wires_are_own(other_chips: &NameSet<'_>, table: &TableKind) -> bool
@@ -123,17 +139,23 @@ fn register_wires_are_own(other_chips: &NameSet<'_>, register: &RegisterKind) ->
 fn all_tables_are_own(other_chips: &NameSet<'_>, tables: &[TableKind]) -> bool
     ensures { result ≡ list_all (rules.table_wires_pass (rules.is_own_wire other_chips.now)) tables.now }
 {
-    tables
-        .iter()
-        .all(|table| table_wires_are_own(other_chips, table))
+    for table in tables {
+        if !table_wires_are_own(other_chips, table) {
+            return false;
+        }
+    }
+    true
 }
 
 fn all_registers_are_own(other_chips: &NameSet<'_>, registers: &[RegisterKind]) -> bool
     ensures { result ≡ list_all (rules.register_wires_pass (rules.is_own_wire other_chips.now)) registers.now }
 {
-    registers
-        .iter()
-        .all(|register| register_wires_are_own(other_chips, register))
+    for register in registers {
+        if !register_wires_are_own(other_chips, register) {
+            return false;
+        }
+    }
+    true
 }
 
 fn slice_wires_are_own(other_chips: &NameSet<'_>, kind: &SliceKind) -> bool
@@ -186,13 +208,23 @@ pub(crate) fn parts_fit(kind: &SliceKind) -> bool
 fn takes_in(cases: &[Case]) -> bool
     ensures { result ≡ list_any rules.takes_in cases.now }
 {
-    cases.iter().any(|case| matches!(&case.take, Take::In))
+    for case in cases {
+        if matches!(&case.take, Take::In) {
+            return true;
+        }
+    }
+    false
 }
 
 fn takes_out(cases: &[Case]) -> bool
     ensures { result ≡ list_any rules.takes_out cases.now }
 {
-    cases.iter().any(|case| matches!(&case.take, Take::Out))
+    for case in cases {
+        if matches!(&case.take, Take::Out) {
+            return true;
+        }
+    }
+    false
 }
 
 // Whether a pad that may be an input, or an output, has the wire for it.

@@ -11,7 +11,7 @@ use std::alloc::Global;
 
 /// What a value of a setting makes a cell take: an input of a register a wire, its complement or a constant; a
 /// pad its mode.
-#[derive(Debug, Drop)]
+#[derive(Drop)]
 pub enum Take {
     Wire(Name),
     NotWire(Name),
@@ -23,7 +23,7 @@ pub enum Take {
 }
 
 /// What a choice is for, which says what its cases may take.
-#[derive(Clone, Copy, Debug)]
+#[derive(Clone, Copy)]
 pub(crate) enum Purpose {
     /// The data, enable or reset of a register.
     Input,

@@ -1,10 +1,11 @@
-//! Reads tables of cases of grids and side files, and prints what their readers answer to each. Its words are pairs of a
-//! reader (`grid` or `side`) and the path of a table (`table`). An answer is printed behind the reader and the number of
+//! Reads tables of cases of grids, cell profiles and side files, and prints what their readers answer to each. Its words
+//! are pairs of a reader (`grid`, `profile` or `side`) and the path of a table (`table`). An answer is printed behind the reader and the number of
 //! the case's line: the fault by its name, or what was read.
 #![tactic(auto)]
 
 mod grid;
 mod phrases;
+mod profile;
 mod side;
 mod table;
 
@@ -17,6 +18,7 @@ use std::rt::Files;
 fn answer_to(alloc: Global, reader: &str, bytes: &[u8]) -> Result<Vec<u8>> {
     match reader {
         "grid" => grid::answer_to(alloc, bytes),
+        "profile" => profile::answer_to(alloc, bytes),
         "side" => side::answer_to(alloc, bytes),
         _ => bail!("no reader: {reader}"),
     }

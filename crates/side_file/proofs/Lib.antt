@@ -6,3 +6,4 @@ pub mod SameDomain
 pub mod Elsewhere
 pub mod Floatless
 pub mod InTurn
+pub mod InPlace

@@ -1,6 +1,7 @@
 //! What the lists of a side file keep beside their forms.
 
-ghost use Rattle.std.specs.Prelude.{◌≡◌, option_map, nat_lt};
+ghost use Rattle.std.specs.Prelude.{◌≡◌, None, option_map, nat_lt, IsTrue};
+ghost use Rattle.std.specs.Option.{option_copied};
 ghost use Rattle.words.specs.OrMemory.{OrMemory};
 ghost use Rattle.words.specs.Firsts.{unless_fault};
 ghost use Rattle.rr_ids.specs.Limits.{limit_of};
@@ -12,7 +13,7 @@ use crate::domains::wrong_domain;
 use crate::listed::{unknown_name, unpaired};
 use crate::uses::second_use;
 use crate::{Side, SideError};
-use rr_ids::Limit;
+use rr_ids::{Limit, Name};
 use std::alloc::Global;
 
 // The most slices and pads of a side file.
@@ -62,10 +63,11 @@ fn is_used_once(alloc: Global, side: &Side) -> Result<(), SideError>
 }
 
 // Each name is listed as what it is used as.
-fn is_listed(alloc: Global, side: &Side) -> Result<(), SideError>
+fn is_listed(alloc: Global, side: &Side, is_in_place: bool) -> Result<(), SideError>
+    requires { IsTrue is_in_place → side_form.wrong_domain side.now ≡ None }
     ensures { OrMemory (λ _. side.now) fault_of result (unless_fault (side_form.unknown_name side.now) side.now) }
 {
-    match unknown_name(alloc, side)? {
+    match unknown_name(alloc, side, is_in_place)? {
         Some(name) => Err(SideError::UnknownName(name.copy()?)),
         None => Ok(()),
     }
@@ -81,11 +83,12 @@ fn is_paired(alloc: Global, side: &Side) -> Result<(), SideError>
     }
 }
 
-// Each entry of a triple is in the domain of its place.
-fn is_in_domains(alloc: Global, side: &Side) -> Result<(), SideError>
+// Each entry of a triple is in the domain of its place, by the first that isn't.
+fn is_in_domains(elsewhere: Option<&Name>, side: &Side) -> Result<(), SideError>
+    requires { side_form.wrong_domain side.now ≡ option_map side_form.SideFault.WrongDomain (option_copied elsewhere) }
     ensures { OrMemory (λ _. side.now) fault_of result (unless_fault (side_form.wrong_domain side.now) side.now) }
 {
-    match wrong_domain(alloc, side)? {
+    match elsewhere {
         Some(name) => Err(SideError::WrongDomain(name.copy()?)),
         None => Ok(()),
     }
@@ -98,8 +101,9 @@ pub(crate) fn checked(alloc: Global, side: Side) -> Result<Side, SideError>
 {
     is_small(&side)?;
     is_used_once(alloc, &side)?;
-    is_listed(alloc, &side)?;
+    let elsewhere = wrong_domain(alloc, &side)?;
+    is_listed(alloc, &side, elsewhere.is_none())?;
     is_paired(alloc, &side)?;
-    is_in_domains(alloc, &side)?;
+    is_in_domains(elsewhere, &side)?;
     Ok(side)
 }

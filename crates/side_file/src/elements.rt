@@ -13,7 +13,7 @@ use std::marker::Model;
 
 /// A named cell at its site, which goes by the name of a tile and of a kind, in its copy. Contracts see the record of
 /// the fields.
-#[derive(Debug, Drop)]
+#[derive(Drop)]
 pub struct Placed {
     pub name: Name,
     pub tile: Name,
@@ -61,7 +61,7 @@ impl FromJson for Placed {
 }
 
 /// Three names, of the copies 0, 1 and 2. Contracts see the record of the fields.
-#[derive(Debug, Drop)]
+#[derive(Drop)]
 pub struct Triple {
     pub first: Name,
     pub second: Name,
@@ -93,7 +93,7 @@ impl FromJson for Triple {
 }
 
 /// A table of a slice, from number 0 on, that may read all three copies. Contracts see the record of the fields.
-#[derive(Debug, Drop)]
+#[derive(Drop)]
 pub struct Voter {
     pub slice: Name,
     pub table: u16,

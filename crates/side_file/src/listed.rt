@@ -1,6 +1,6 @@
 //! Names that are listed as what they are used as, and cells that are in triples.
 
-ghost use Rattle.std.specs.Prelude.{◌≡◌, map, not, find, IfOk, option_map};
+ghost use Rattle.std.specs.Prelude.{◌≡◌, map, not, find, None, IfOk, IsTrue, option_map};
 ghost use Rattle.std.specs.Option.{option_copied};
 ghost use Rattle.side_form.specs.Side as side_form;
 ghost use Rattle.side_file.specs.Known.{KnowsNames, has_name};
@@ -81,11 +81,19 @@ fn unlisted_voter(alloc: Global, side: &Side) -> Result<Option<&Name>, AllocErro
 }
 
 /// The first name that isn't listed as what it is used as: slices in triples, pads in inputs, outputs and clocks, and
-/// slices in voters.
-pub(crate) fn unknown_name(alloc: Global, side: &Side) -> Result<Option<&Name>, AllocError>
+/// slices in voters. Entries of triples that are in the domains of their places are listed.
+pub(crate) fn unknown_name(
+    alloc: Global,
+    side: &Side,
+    is_in_place: bool,
+) -> Result<Option<&Name>, AllocError>
+    requires { IsTrue is_in_place → side_form.wrong_domain side.now ≡ None }
     ensures { IfOk result (λ name. side_form.unknown_name side.now
         ≡ option_map side_form.SideFault.UnknownName (option_copied name)) }
 {
+    if is_in_place {
+        return unlisted_voter(alloc, side);
+    }
     if let Some(name) = unlisted_slice(alloc, side)? {
         return Ok(Some(name));
     }

@@ -9,7 +9,7 @@ use std::marker::Model;
 
 /// The side file of a design: its named slices and pads at their sites, the triples of slices, of input pads, of output
 /// pads and of clock pads, and the voters. Contracts see the record of the fields.
-#[derive(Debug, Drop)]
+#[derive(Drop)]
 pub struct Side {
     pub slices: List<Placed>,
     pub pads: List<Placed>,

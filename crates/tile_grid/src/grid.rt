@@ -21,7 +21,7 @@ use std::marker::Model;
 
 /// The grid of a device: its tiles in byte order of their names, and the height and width that hold all their
 /// places. Contracts see the record of the fields.
-#[derive(Debug, Drop)]
+#[derive(Drop)]
 pub struct Grid {
     pub tiles: TypedVec<TileId, Tile>,
     pub height: u16,

@@ -20,7 +20,7 @@ use std::marker::Model;
 /// A tile of a grid: its name, its type, its row and column where its name has them, its number of frames
 /// (`cols`) and of bits in a frame (`rows`), and the first frame and bit. The four numbers are at most
 /// 2,147,483,647. Contracts see the record of the fields.
-#[derive(Debug, Drop)]
+#[derive(Drop)]
 pub struct Tile {
     pub name: Name,
     pub kind: Name,

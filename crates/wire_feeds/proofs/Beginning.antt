@@ -3,7 +3,7 @@ use Rattle.std.proofs.Common.{◌≡◌, ℕ, ◌+◌, ◌<◌, ◌≤◌, List,
 use Rattle.std.proofs.lemmas.List.{get_or-set_same}
 use Rattle.words.specs.Members.{In}
 use Rattle.links.specs.Links.{here, Reaches}
-use Rattle.path_links.proofs.Listed.{each_member, met, one_more_holds}
+use Rattle.net_links.proofs.Listed.{each_member, met, one_more_holds}
 use Rattle.wire_feeds.specs.declared.noted.FedWire.{FedWire}
 use Rattle.wire_feeds.specs.Rows.{Leads}
 use Rattle.wire_feeds.specs.Walks.{IsUnfed, Waits, Walk, feeds_with, waiting_with}

@@ -5,7 +5,7 @@ use Rattle.std.proofs.lemmas.List.{get_or_past}
 use Rattle.words.specs.Members.{In}
 use Rattle.links.specs.Links.{onto}
 use Rattle.links.proofs.Members.{in_either, in_left, in_right}
-use Rattle.path_links.proofs.Listed.{each_member, met, one_more_holds}
+use Rattle.net_links.proofs.Listed.{each_member, met, one_more_holds}
 use Rattle.wire_feeds.specs.declared.noted.FedWire.{FedWire}
 use Rattle.wire_feeds.specs.Rows.{Leads}
 use Rattle.wire_feeds.specs.Walks.{IsFed, Walk, feeds_with, waiting_with}

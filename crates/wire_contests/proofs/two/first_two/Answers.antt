@@ -1,6 +1,6 @@
 use Rattle.std.proofs.Common.{◌≡◌, ℕ, suc, ◌∷◌, Option, Some, filter, drop, sym, ap, ◌∙◌}
 use Rattle.std.specs.Prelude.{option_to_list}
-use Rattle.path_links.proofs.Listed.{met}
+use Rattle.net_links.proofs.Listed.{met}
 use Rattle.wire_contests.specs.Contests.{first_of, is_fed, second_of}
 use Rattle.wire_contests.proofs.Rows.{one_of, two_found}
 use Rattle.wire_contests.proofs.two.first_two.Goals as goal

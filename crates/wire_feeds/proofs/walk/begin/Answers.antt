@@ -1,5 +1,5 @@
 use Rattle.std.proofs.Common.{ℕ, List, Option, None, length, get_or, refl, sym, subst, arith, ◌+◌, ◌<◌}
-use Rattle.path_links.proofs.Listed.{met}
+use Rattle.net_links.proofs.Listed.{met}
 use Rattle.wire_feeds.specs.declared.noted.FedWire.{FedWire}
 use Rattle.wire_feeds.specs.Walks.{feeds_with}
 use Rattle.wire_feeds.proofs.Beginning.{Begun, begun_more, begun_walk}

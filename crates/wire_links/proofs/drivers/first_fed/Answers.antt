@@ -1,5 +1,5 @@
 use Rattle.std.proofs.Common.{◌≡◌, false, arith}
-use Rattle.path_links.proofs.Listed.{each_member, met}
+use Rattle.net_links.proofs.Listed.{each_member, met}
 use Rattle.wire_contests.specs.Contests.{is_fed}
 use Rattle.wire_links.proofs.drivers.first_fed.Goals as goal
 
