@@ -1,0 +1,3 @@
+mod Adding
+pub mod Known
+pub mod Standing
