@@ -1,3 +1,4 @@
 pub mod Filtered
 pub mod Linked
 pub mod Routed
+pub mod Finding

@@ -2,7 +2,8 @@
 use Rattle.std.proofs.Common.{◌≡◌, ℕ, zero, suc, ◌+◌, ◌<◌, ◌^◌, ◌↔◌, List, [], ◌∷◌, map, Option, length, get_or, refl, sym, ap, subst, ◌∙◌, inl, inr, arith}
 use Rattle.std.specs.declared.cmp.Ordering.TheVariants.{Less, Equal}
 use Rattle.std.specs.Ordering.{nat_cmp, ordering_then}
-use Rattle.std.proofs.lemmas.Bool.{eq-eqb, le-ltb, lt-ltb}
+use Rattle.std.proofs.lemmas.Bool.{cases_lt, eq-eqb, le-ltb, lt-ltb}
+use Rattle.std.proofs.lemmas.List.{get_or_past}
 use Rattle.words.specs.Members.{In}
 use Rattle.links.specs.Links.{Link, Routing, Drives, IsClean}
 use Rattle.links.proofs.Members.{in_either, in_left, in_map, in_right, of_map}
@@ -114,3 +115,11 @@ module _ (wires : ℕ) (given links : List Link) (outputs : List ℕ) (drivers n
         feeds_are = own;
         clean = clean (routing_of_rows drivers outputs) (rows_drive drivers outputs) own;
       }
+
+-- each wire to which a link leads has a row
+pub next_within : (drivers next : List (List ℕ)) (feeds : List (Option ℕ)) (outputs : List ℕ) → AreJoined drivers next feeds outputs
+    → (x w : ℕ) → In (get_or next x []) w → w < length next
+next_within drivers next feeds outputs are x w i = elim (cases_lt w (length drivers)) [
+  | inl l ↦ (let e = are.next_long in omega arith)
+  | inr past ↦ absurd (subst (λ (row : List ℕ). In row x) (get_or_past drivers w [] past) ((rows_drive drivers outputs w x).0 ((are.has_next x w).1 i)))
+]

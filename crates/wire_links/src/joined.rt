@@ -3,18 +3,20 @@
 ghost use Rattle.std.specs.Prelude.{◌≡◌, ℕ, ◌<◌, ◌↔◌, ◌^◌, length, get_or, [], None, IfOk, MatchOption, MatchResult};
 ghost use Rattle.std.specs.Ordering.{nat_cmp};
 ghost use Rattle.words.specs.Members.{In};
-ghost use Rattle.links.specs.Links.{Counting, Drives, Fed, Feeds, IsClean};
+ghost use Rattle.words.specs.Twice.{HasNoneTwice};
+ghost use Rattle.links.specs.Links.{Below, Counting, Drives, Fed, Feeds, IsClean};
 ghost use Rattle.fabric.specs.InOrder.{InOrderOnce, IsRising};
 ghost use Rattle.link_order.specs.Order.{AreWithin, link_cmp};
 ghost use Rattle.wire_links.specs.Refused.{Refuses, as_routing};
 
 use crate::LinksError;
 use crate::drivers::first_fed;
-use crate::rows::LinkRows;
+use crate::reached::below_along;
+use crate::rows::{LinkRows, row_of};
 use grouped::Grouped;
 use link_order::{Link, in_order};
 use rr_ids::{Id, WireId};
-use std::alloc::Global;
+use std::alloc::{AllocError, Global};
 use std::marker::Model;
 use wire_contests::first_contest;
 use wire_feeds::feeds_along;
@@ -104,16 +106,14 @@ impl WireLinks {
     {
         feed_at(&self.feeds, w)
     }
-}
 
-// The row of a wire, empty where the wire has none.
-fn row_of(rows: &Grouped<WireId, WireId>, w: WireId) -> &[WireId]
-    ensures { result.now ≡ get_or rows.now w [] }
-{
-    if w.to_u32() as usize >= rows.len() {
-        return &rows.items()[..0];
+    /// A wire and all wires that are reached from it along links, each once, in order of distance. It costs what it comes to.
+    pub fn below(&self, alloc: Global, w: WireId) -> Result<Vec<WireId>, AllocError>
+        ensures all { IfOk result (λ v. (x : ℕ) → In v.items x ↔ Below self.now w x) }
+        ensures once { IfOk result (λ v. HasNoneTwice v.items) }
+    {
+        below_along(alloc, &self.next, w)
     }
-    rows.row(w)
 }
 
 // What feeds a wire.

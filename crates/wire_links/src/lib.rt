@@ -4,6 +4,7 @@
 mod drivers;
 mod error;
 mod joined;
+mod reached;
 mod rows;
 
 pub use error::LinksError;

@@ -1,13 +1,13 @@
 //! Links in rows: into each wire, and out of each.
 
-ghost use Rattle.std.specs.Prelude.{◌≡◌, ◌<◌, ◌^◌, length, IfOk};
+ghost use Rattle.std.specs.Prelude.{◌≡◌, ◌<◌, ◌^◌, [], get_or, length, IfOk};
 ghost use Rattle.fabric.specs.InOrder.{IsRising};
 ghost use Rattle.link_order.specs.Order.{AreWithin, link_cmp};
 ghost use Rattle.wire_links.specs.Rows.{AreLinkRows};
 
 use grouped::Grouped;
 use link_order::{Link, sinks, sources};
-use rr_ids::WireId;
+use rr_ids::{Id, WireId};
 use std::alloc::{AllocError, Global};
 
 /// For each wire its drivers, and the wires to which its links lead, each in order.
@@ -31,4 +31,14 @@ impl LinkRows {
         let next = Grouped::new(alloc, wires, &sources, &sinks)?;
         Ok(LinkRows { drivers, next })
     }
+}
+
+/// The row of a wire, empty where the wire has none.
+pub(crate) fn row_of(rows: &Grouped<WireId, WireId>, w: WireId) -> &[WireId]
+    ensures { result.now ≡ get_or rows.now w [] }
+{
+    if w.to_u32() as usize >= rows.len() {
+        return &rows.items()[..0];
+    }
+    rows.row(w)
 }

@@ -33,6 +33,8 @@ fn links_are_joined(rt: HostRuntime) -> Result<(), Fail> {
     assert_eq!(rt; joined.feed(wire(1)), Some(wire(0)));
     assert_eq!(rt; joined.feed(wire(3)), None);
     assert_eq!(rt; joined.next(wire(0)), [wire(2)].as_slice());
+    let below = joined.below(rt.alloc(), wire(0))?;
+    assert_eq!(rt; below.as_slice(), [wire(0), wire(2), wire(1)].as_slice());
     Ok(())
 }
 
