@@ -10,7 +10,6 @@ ghost use Rattle.bits_db.specs.Faults.{fault_of};
 ghost use Rattle.bits_db.specs.Heads.{IsDefault};
 ghost use Rattle.bits_db.specs.Readings.{KnowsItsEnums};
 
-use super::pattern::MOST_BITS;
 use super::row::option_of;
 use super::{DbError, EnumOption, EnumSetting};
 use rr_ids::{Limit, List, Name};
@@ -125,7 +124,7 @@ impl<'a> Enums<'a> {
         if !self.values.insert(value)? {
             return Err(DbError::BadLine(number));
         }
-        if option.bits.len() > MOST_BITS {
+        if option.bits.is_too_long() {
             return Err(DbError::TooLarge(Limit::Pattern));
         }
         setting.options.push(option)?;

@@ -9,7 +9,6 @@ ghost use Rattle.grammars.specs.RowByRow.{with_arc as with_one_arc};
 ghost use Rattle.bits_db.specs.Faults.{fault_of};
 ghost use Rattle.bits_db.specs.Readings.{KnowsItsMuxes};
 
-use super::pattern::MOST_BITS;
 use super::row::arc_of;
 use super::{Arc, DbError, Mux};
 use rr_ids::{Limit, List, Name};
@@ -117,7 +116,7 @@ impl<'a> Muxes<'a> {
         if !self.sources.insert(source)? {
             return Err(DbError::BadLine(number));
         }
-        if arc.bits.len() > MOST_BITS {
+        if arc.bits.is_too_long() {
             return Err(DbError::TooLarge(Limit::Pattern));
         }
         mux.arcs.push(arc)?;

@@ -1,14 +1,15 @@
 //! Patterns of bits.
 
-ghost use Rattle.std.specs.Prelude.{◌≡◌, [], ◌∷◌, ◌++◌, ◌==◌, length, OnOk, OnErr, IfOk};
+ghost use Rattle.std.specs.Prelude.{◌≡◌, [], ◌∷◌, ◌++◌, ◌==◌, length, nat_lt, OnOk, OnErr, IfOk};
+ghost use Rattle.records.specs.Limits.{most_pattern_bits};
 
 use smallvec::SmallVec;
 use std::alloc::{AllocError, Global};
 use std::marker::Model;
 use text_cut::PatternBit;
 
-/// The most bits of a pattern.
-pub(crate) const MOST_BITS: usize = 32;
+// The most bits of a pattern.
+const MOST_BITS: usize = 32;
 
 /// The bits of a pattern in the order in which a line names them. Four are kept inline.
 #[derive(Drop)]
@@ -64,6 +65,13 @@ impl Pattern {
         ensures { result ≡ (length self.now == 0) }
     {
         self.bits.as_slice().is_empty()
+    }
+
+    /// Whether there are more bits than a pattern may have.
+    pub(crate) fn is_too_long(&self) -> bool
+        ensures { result ≡ nat_lt most_pattern_bits (length self.now) }
+    {
+        self.len() > MOST_BITS
     }
 
     /// An equal pattern.

@@ -9,7 +9,6 @@ ghost use Rattle.grammars.specs.RowByRow.{with_bits};
 ghost use Rattle.bits_db.specs.Faults.{fault_of};
 ghost use Rattle.bits_db.specs.Readings.{KnowsItsWords};
 
-use super::pattern::MOST_BITS;
 use super::row::pattern_of;
 use super::{DbError, WordSetting};
 use rr_ids::{Limit, List, Name};
@@ -79,7 +78,7 @@ impl<'a> WordSettings<'a> {
         let Some(bits) = pattern_of(self.alloc, first, words)? else {
             return Err(DbError::BadLine(number));
         };
-        if bits.len() > MOST_BITS {
+        if bits.is_too_long() {
             return Err(DbError::TooLarge(Limit::Pattern));
         }
         let Some(mut setting) = self.settings.pop() else {

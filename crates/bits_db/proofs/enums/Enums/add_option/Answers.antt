@@ -1,5 +1,4 @@
-use Rattle.std.proofs.Common.{◌≡◌, ◌∷◌, ◌++◌, [], List, true, false, Ok, Some, length, nat_lt, refl, sym, ap, ◌∙◌, arith}
-use Rattle.std.proofs.lemmas.Bool.Decides.{nat_tests}
+use Rattle.std.proofs.Common.{◌≡◌, ◌∷◌, ◌++◌, [], List, true, false, Ok, Some, length, nat_lt, refl, sym, ap, ◌∙◌}
 use Rattle.records.specs.Database.{EnumOption, EnumSetting}
 use Rattle.records.specs.Limits.{most_pattern_bits}
 use Rattle.grammars.specs.BitsDb.{has_enum, has_value}
@@ -10,14 +9,12 @@ use Rattle.bits_db.proofs.Names.{not_true, entry_known, entries_with_one, names_
 use Rattle.bits_db.proofs.Entries.{long_option, new_option}
 use Rattle.bits_db.proofs.enums.Enums.add_option.Goals as goal
 
-pub returns-then-len-gt-MOST_BITS-clause-enums : goal.returns-then-len-gt-MOST_BITS-clause-enums
-returns-then-len-gt-MOST_BITS-clause-enums c =
+pub returns-then-is_too_long-clause-enums : goal.returns-then-is_too_long-clause-enums
+returns-then-is_too_long-clause-enums c =
     let known = not_true _ (sym c.in_ok-insert.ensures.added ∙ c.if-not-branch.false) in
     let has = entry_known (λ (o : EnumOption). o.value) (λ (e : EnumSetting). e.options) c.args.self.now.enums c.pop.new.self c.in-Some.setting c.args.self.now.values c.args.option.value c.args.value false c.in-Some.ensures c.requires.value c.requires.known.entries known in
-    let bits : length c.option.inside.bits ≡ length c.args.option.bits = ap (λ (o : EnumOption). length o.bits) c.option.view_is in
-    let many = c.if-len-gt-MOST_BITS.true in
-    let counted = c.len.ensures in
-    let long : nat_lt most_pattern_bits (length c.args.option.bits) ≡ true = grind (arith, nat_tests) in
+    let bits = ap (λ (o : EnumOption). nat_lt most_pattern_bits (length o.bits)) c.option.view_is in
+    let long : nat_lt most_pattern_bits (length c.args.option.bits) ≡ true = sym bits ∙ sym c.is_too_long.ensures ∙ c.if-is_too_long.true in
     long_option c.args.number c.args.self.now.enums c.pop.new.self c.in-Some.setting c.args.option _ c.in-Some.ensures has long
 
 pub returns-clause-known : goal.returns-clause-known
@@ -57,8 +54,6 @@ returns-clause-enums c =
     let all : with_option c.args.self.now.enums (Some option) ≡ c.push-2.new.self = ap (λ es. with_option es (Some option)) split ∙ with_last_pushed change front setting ∙ sym new in
     let known = not_true _ (sym c.in_ok-insert.ensures.added ∙ c.if-not-branch.false) in
     let has = entry_known (λ (o : EnumOption). o.value) (λ (e : EnumSetting). e.options) c.args.self.now.enums front setting c.args.self.now.values option.value c.args.value false c.in-Some.ensures c.requires.value c.requires.known.entries known in
-    let bits : length c.option.inside.bits ≡ length option.bits = ap (λ (o : EnumOption). length o.bits) c.option.view_is in
-    let few = c.if-len-gt-MOST_BITS.false in
-    let counted = c.len.ensures in
-    let short : nat_lt most_pattern_bits (length option.bits) ≡ false = grind (arith, nat_tests) in
+    let bits = ap (λ (o : EnumOption). nat_lt most_pattern_bits (length o.bits)) c.option.view_is in
+    let short : nat_lt most_pattern_bits (length option.bits) ≡ false = sym bits ∙ sym c.is_too_long.ensures ∙ c.if-is_too_long.false in
     new_option c.args.number c.args.self.now.enums front setting option (with_option c.args.self.now.enums (Some option)) split has short ∙ ap (λ (es : List EnumSetting). Ok es) all

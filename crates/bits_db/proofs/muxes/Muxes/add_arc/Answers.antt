@@ -1,5 +1,4 @@
-use Rattle.std.proofs.Common.{◌≡◌, ◌∷◌, ◌++◌, [], List, true, false, Ok, Some, length, nat_lt, refl, sym, ap, ◌∙◌, arith}
-use Rattle.std.proofs.lemmas.Bool.Decides.{nat_tests}
+use Rattle.std.proofs.Common.{◌≡◌, ◌∷◌, ◌++◌, [], List, true, false, Ok, Some, length, nat_lt, refl, sym, ap, ◌∙◌}
 use Rattle.records.specs.Database.{Arc, Mux}
 use Rattle.records.specs.Limits.{most_pattern_bits}
 use Rattle.grammars.specs.BitsDb.{has_sink, has_source}
@@ -10,14 +9,12 @@ use Rattle.bits_db.proofs.Names.{not_true, entry_known, entries_with_one, names_
 use Rattle.bits_db.proofs.Entries.{long_arc, new_arc}
 use Rattle.bits_db.proofs.muxes.Muxes.add_arc.Goals as goal
 
-pub returns-then-len-gt-MOST_BITS-clause-muxes : goal.returns-then-len-gt-MOST_BITS-clause-muxes
-returns-then-len-gt-MOST_BITS-clause-muxes c =
+pub returns-then-is_too_long-clause-muxes : goal.returns-then-is_too_long-clause-muxes
+returns-then-is_too_long-clause-muxes c =
     let known = not_true _ (sym c.in_ok-insert.ensures.added ∙ c.if-not-branch.false) in
     let has = entry_known (λ (a : Arc). a.source) (λ (m : Mux). m.arcs) c.args.self.now.muxes c.pop.new.self c.in-Some.mux c.args.self.now.sources c.args.arc.source c.args.source false c.in-Some.ensures c.requires.source c.requires.known.entries known in
-    let bits : length c.arc.inside.bits ≡ length c.args.arc.bits = ap (λ (a : Arc). length a.bits) c.arc.view_is in
-    let many = c.if-len-gt-MOST_BITS.true in
-    let counted = c.len.ensures in
-    let long : nat_lt most_pattern_bits (length c.args.arc.bits) ≡ true = grind (arith, nat_tests) in
+    let bits = ap (λ (a : Arc). nat_lt most_pattern_bits (length a.bits)) c.arc.view_is in
+    let long : nat_lt most_pattern_bits (length c.args.arc.bits) ≡ true = sym bits ∙ sym c.is_too_long.ensures ∙ c.if-is_too_long.true in
     long_arc c.args.number c.args.self.now.muxes c.pop.new.self c.in-Some.mux c.args.arc _ c.in-Some.ensures has long
 
 pub returns-clause-known : goal.returns-clause-known
@@ -57,8 +54,6 @@ returns-clause-muxes c =
     let all : with_arc c.args.self.now.muxes (Some arc) ≡ c.push-2.new.self = ap (λ ms. with_arc ms (Some arc)) split ∙ with_last_pushed change front mux ∙ sym new in
     let known = not_true _ (sym c.in_ok-insert.ensures.added ∙ c.if-not-branch.false) in
     let has = entry_known (λ (a : Arc). a.source) (λ (m : Mux). m.arcs) c.args.self.now.muxes front mux c.args.self.now.sources arc.source c.args.source false c.in-Some.ensures c.requires.source c.requires.known.entries known in
-    let bits : length c.arc.inside.bits ≡ length arc.bits = ap (λ (a : Arc). length a.bits) c.arc.view_is in
-    let few = c.if-len-gt-MOST_BITS.false in
-    let counted = c.len.ensures in
-    let short : nat_lt most_pattern_bits (length arc.bits) ≡ false = grind (arith, nat_tests) in
+    let bits = ap (λ (a : Arc). nat_lt most_pattern_bits (length a.bits)) c.arc.view_is in
+    let short : nat_lt most_pattern_bits (length arc.bits) ≡ false = sym bits ∙ sym c.is_too_long.ensures ∙ c.if-is_too_long.false in
     new_arc c.args.number c.args.self.now.muxes front mux arc (with_arc c.args.self.now.muxes (Some arc)) split has short ∙ ap (λ (ms : List Mux). Ok ms) all

@@ -1,6 +1,4 @@
-use Rattle.std.proofs.Common.{◌≡◌, ◌∷◌, ◌++◌, [], List, false, Ok, Some, length, nat_lt, sym, ap, ◌∙◌, arith}
-use Rattle.std.proofs.lemmas.Bool.Decides.{nat_tests}
-use Rattle.patterns.specs.Bits.{PatternBit}
+use Rattle.std.proofs.Common.{◌≡◌, ◌∷◌, ◌++◌, [], List, false, Ok, Some, length, nat_lt, sym, ap, ◌∙◌}
 use Rattle.records.specs.Database.{WordSetting}
 use Rattle.records.specs.Limits.{most_pattern_bits}
 use Rattle.grammars.specs.RowByRow.{with_bits}
@@ -21,10 +19,7 @@ returns-clause-words c =
     ∙ ap (λ (w : WordSetting). front ++ change w ∷ []) c.setting.view_is in
     let all : with_bits c.args.self.now.settings (Some bits) ≡ c.push-2.new.self =
     ap (λ ws. with_bits ws (Some bits)) c.in-Some-pop.ensures ∙ with_last_pushed change front setting ∙ sym new in
-    let length_of : length c.bits.inside.bits.items ≡ length bits = ap (λ (b : List PatternBit). length b) c.bits.view_is in
-    let few = c.if-len-gt-MOST_BITS.false in
-    let counted = c.len.ensures in
-    let short : nat_lt most_pattern_bits (length bits) ≡ false = grind (arith, nat_tests) in
+    let short : nat_lt most_pattern_bits (length bits) ≡ false = sym c.is_too_long.ensures ∙ c.if-is_too_long.false in
     new_bits c.args.number c.args.self.now.settings _ bits (sym c.in-Some.is ∙ c.in_ok-bits.ensures) short ∙ ap (λ (ws : List WordSetting). Ok ws) all
 
 pub returns-clause-open : goal.returns-clause-open
