@@ -12,7 +12,7 @@ use Rattle.words.specs.Twice.{HasNoneTwice}
 use Rattle.links.specs.Links.{Reaches, here, onto}
 use Rattle.links.proofs.Members.{in_either, in_left, in_right}
 use Rattle.fabric_laws.proofs.Members.{any_from}
-use Rattle.path_links.proofs.Listed.{in_at, place_of}
+use Rattle.net_links.proofs.Listed.{in_at, place_of}
 use Rattle.indexmap.specs.IndexSet.{insert_all, insert_key}
 use Rattle.wire_feeds.specs.Rows.{AreRowsWithin, Leads}
 use Rattle.wire_links.specs.Found.{Finds}
