@@ -5,6 +5,3 @@ mod numbers;
 mod rows;
 
 pub use rows::SlotWires;
-
-#[cfg(test)]
-mod tests;

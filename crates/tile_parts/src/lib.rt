@@ -10,6 +10,3 @@ pub use arcs::add_arcs;
 pub use laws::slots_give_the_tile;
 pub use muxes::add_muxes;
 pub use slots::{MuxSlots, slots_of_muxes};
-
-#[cfg(test)]
-mod tests;

@@ -9,6 +9,3 @@ mod types;
 pub use ids::{OfSlot, OfType, SlotId, TypeId};
 pub use tile_type::TileType;
 pub use types::TileTypes;
-
-#[cfg(test)]
-mod tests;

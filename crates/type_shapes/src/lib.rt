@@ -4,6 +4,3 @@
 mod shapes;
 
 pub use shapes::{Shapes, shapes_of};
-
-#[cfg(test)]
-mod tests;

@@ -1,0 +1,48 @@
+//! Builds what a routing graph is made of, from the files of a device, and prints how much there is: wires, tile types,
+//! slots of tiles, muxes and arcs. Its words are the family's folder, the profile's file and the device's name. Time it, or
+//! count its instructions, from outside.
+#![tactic(auto)]
+
+mod files;
+mod parts;
+
+use anyhow::{Context, Result};
+use device_names::Device;
+use device_wires::wires_with;
+use slot_wires::SlotWires;
+use std::alloc::Global;
+use std::env;
+use std::rt::Files;
+use tile_types::TileTypes;
+use type_shapes::shapes_of;
+
+// The line of counts of a device.
+fn line_of(alloc: Global, device: &Device<'_>) -> Result<String> {
+    let types = TileTypes::of(alloc, device)?;
+    let wires = wires_with(alloc, device, &types)?;
+    let slots = SlotWires::of(alloc, device, &types, &wires)?;
+    let shapes = shapes_of(alloc, types.types())?;
+    let (muxes, arcs) = parts::counts(alloc, &types, &slots, &shapes)?;
+    let wires = wires.len();
+    let kinds = types.types().len();
+    let tiles = slots.len();
+    Ok(format!(in alloc; "tiles {tiles} types {kinds} wires {wires} muxes {muxes} arcs {arcs}")?)
+}
+
+fn main(rt: HostRuntime) -> Result<()> {
+    let mut words = env::args(&rt)?.skip(1);
+    let family = words.next().context("a family's folder is wanted")?;
+    let profile = words.next().context("a profile's file is wanted")?;
+    let name = words.next().context("a device's name is wanted")?;
+    let grid = files::grid_of(&rt, family.as_str(), name.as_str())?;
+    let databases = files::databases_of(&rt, family.as_str(), &grid)?;
+    let profile = files::profile_of(&rt, profile.as_str())?;
+    let device = Device {
+        grid: &grid,
+        databases: &databases,
+        profile: &profile,
+    };
+    let line = line_of(rt.alloc(), &device)?;
+    println!(&rt; "{line}")?;
+    Ok(())
+}
