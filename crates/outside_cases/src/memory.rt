@@ -40,63 +40,103 @@ pub fn print_whole<R: Print + AllocGlobal, F: Files>(
     Ok(())
 }
 
+// A file `a` of 150,000 bytes, of whose reads the k-th fails.
+fn file_that_fails(alloc: Global, k: u64) -> Result<MemFiles, AllocError> {
+    let mut list = Vec::new(alloc);
+    add(&mut list, "a", pattern(alloc, 150_000)?)?;
+    Ok(MemFiles::new(list, vec![in alloc; k]?, Vec::new(alloc)))
+}
+
+fn failing_read<R: Print + AllocGlobal>(rt: &R, k: u64, content: &[u8]) -> Result<()> {
+    println!(rt; "read {k} fails")?;
+    let mut files = file_that_fails(rt.alloc(), k)?;
+    print_whole(rt, &mut files, "a", 150_000, content)
+}
+
 /// A file of 150,000 bytes takes three reads and one that finds its end. A read that fails is a fault, at each.
 pub fn failing_reads<R: Print + AllocGlobal>(rt: &R) -> Result<()> {
-    let alloc = rt.alloc();
-    let content = pattern(alloc, 150_000)?;
+    let content = pattern(rt.alloc(), 150_000)?;
     for k in 1..6u64 {
-        println!(rt; "read {k} fails")?;
-        let mut list = Vec::new(alloc);
-        add(&mut list, "a", pattern(alloc, 150_000)?)?;
-        let mut files = MemFiles::new(list, vec![in alloc; k]?, Vec::new(alloc));
-        print_whole(rt, &mut files, "a", 150_000, &content)?;
+        failing_read(rt, k, &content)?;
     }
     Ok(())
 }
 
-/// An empty file, a file past, at and below the limit, the first of two with one name, and no such file.
-pub fn limits<R: Print + AllocGlobal>(rt: &R) -> Result<()> {
-    let alloc = rt.alloc();
-    let content = pattern(alloc, 65_536)?;
+// An empty file, and two of one name.
+fn three_files(alloc: Global) -> Result<SureFiles, AllocError> {
     let mut list = Vec::new(alloc);
     add(&mut list, "a", Vec::new(alloc))?;
     add(&mut list, "b", pattern(alloc, 65_536)?)?;
     add(&mut list, "b", pattern(alloc, 3)?)?;
-    let mut files = SureFiles::new(list);
+    Ok(SureFiles::new(list))
+}
+
+fn print_limits<R: Print + AllocGlobal>(
+    rt: &R,
+    files: &mut SureFiles,
+    content: &[u8],
+) -> Result<()> {
+    print_whole(rt, files, "a", 0, b"")?;
+    print_whole(rt, files, "b", 65_535, content)?;
+    print_whole(rt, files, "b", 65_536, content)?;
+    print_whole(rt, files, "b", u64::MAX, content)?;
+    print_whole(rt, files, "c", 0, b"")
+}
+
+/// An empty file, a file past, at and below the limit, the first of two with one name, and no such file.
+pub fn limits<R: Print + AllocGlobal>(rt: &R) -> Result<()> {
     println!(rt; "limits")?;
-    print_whole(rt, &mut files, "a", 0, b"")?;
-    print_whole(rt, &mut files, "b", 65_535, &content)?;
-    print_whole(rt, &mut files, "b", 65_536, &content)?;
-    print_whole(rt, &mut files, "b", u64::MAX, &content)?;
-    print_whole(rt, &mut files, "c", 0, b"")
+    let content = pattern(rt.alloc(), 65_536)?;
+    let mut files = three_files(rt.alloc())?;
+    print_limits(rt, &mut files, &content)
+}
+
+/// Writes a file, and prints what is answered.
+pub fn print_write<R: Print, F: Files>(
+    rt: &R,
+    files: &mut F,
+    name: &str,
+    content: &[u8],
+) -> Result<()> {
+    let answer = files.write(name, content);
+    println!(rt; "  {answer:?}")?;
+    Ok(())
+}
+
+// A file `a`; the second write fails.
+fn second_write_fails(alloc: Global) -> Result<MemFiles, AllocError> {
+    let mut list = Vec::new(alloc);
+    add(&mut list, "a", Vec::from_slice(alloc, b"old")?)?;
+    Ok(MemFiles::new(list, Vec::new(alloc), vec![in alloc; 2]?))
+}
+
+fn print_writes<R: Print + AllocGlobal>(rt: &R, files: &mut MemFiles) -> Result<()> {
+    print_write(rt, files, "a", b"new")?;
+    print_write(rt, files, "b", b"lost")?;
+    print_write(rt, files, "a", b"newer")?;
+    print_whole(rt, files, "a", 9, b"newer")?;
+    print_whole(rt, files, "b", 9, b"")
 }
 
 /// The second write fails. A written file counts before an older one of its name.
 pub fn failing_writes<R: Print + AllocGlobal>(rt: &R) -> Result<()> {
-    let alloc = rt.alloc();
-    let mut list = Vec::new(alloc);
-    add(&mut list, "a", Vec::from_slice(alloc, b"old")?)?;
-    let mut files = MemFiles::new(list, Vec::new(alloc), vec![in alloc; 2]?);
     println!(rt; "write 2 fails")?;
-    for (name, content) in [("a", "new"), ("b", "lost"), ("a", "newer")] {
-        let answer = files.write(name, content.as_bytes());
-        println!(rt; "  {answer:?}")?;
-    }
-    print_whole(rt, &mut files, "a", 9, b"newer")?;
-    print_whole(rt, &mut files, "b", 9, b"")
+    let mut files = second_write_fails(rt.alloc())?;
+    print_writes(rt, &mut files)
+}
+
+fn sure_writes<R: Print + AllocGlobal>(rt: &R, files: &mut SureFiles) -> Result<()> {
+    print_write(rt, files, "a", b"text")?;
+    print_whole(rt, files, "a", 4, b"text")
 }
 
 /// Files and a sink of which no call fails.
 pub fn sure_files<R: Print + AllocGlobal>(rt: &R) -> Result<()> {
-    let alloc = rt.alloc();
-    let mut files = SureFiles::new(Vec::new(alloc));
     println!(rt; "no call fails")?;
-    let answer = files.write("a", b"text");
-    println!(rt; "  {answer:?}")?;
-    print_whole(rt, &mut files, "a", 4, b"text")?;
-    let mut out = SureSink::new(alloc);
-    print_written(rt, &mut out, b"some ")?;
-    print_written(rt, &mut out, b"bytes")?;
+    let mut files = SureFiles::new(Vec::new(rt.alloc()));
+    sure_writes(rt, &mut files)?;
+    let mut out = SureSink::new(rt.alloc());
+    print_twice(rt, &mut out)?;
     print_text(rt, out.written())
 }
 
@@ -109,6 +149,12 @@ pub fn print_written<R: Print, O: Sink>(rt: &R, out: &mut O, bytes: &[u8]) -> Re
     Ok(())
 }
 
+/// Writes bytes whole, twice.
+pub fn print_twice<R: Print, O: Sink>(rt: &R, out: &mut O) -> Result<()> {
+    print_written(rt, out, b"some ")?;
+    print_written(rt, out, b"bytes")
+}
+
 /// Prints bytes that are text.
 pub fn print_text<R: Print>(rt: &R, bytes: &[u8]) -> Result<()> {
     let text = std::str::from_utf8(bytes)?;
@@ -116,14 +162,17 @@ pub fn print_text<R: Print>(rt: &R, bytes: &[u8]) -> Result<()> {
     Ok(())
 }
 
+fn failing_sink<R: Print + AllocGlobal>(rt: &R, j: u64) -> Result<()> {
+    println!(rt; "call {j} fails")?;
+    let mut out = MemSink::new(rt.alloc(), 1, vec![in rt.alloc(); j]?);
+    print_written(rt, &mut out, b"two")?;
+    print_text(rt, out.written())
+}
+
 /// A sink that takes a byte a call holds, after its call j failed, the j - 1 bytes before.
 pub fn failing_sinks<R: Print + AllocGlobal>(rt: &R) -> Result<()> {
-    let alloc = rt.alloc();
     for j in 1..5u64 {
-        println!(rt; "call {j} fails")?;
-        let mut out = MemSink::new(alloc, 1, vec![in alloc; j]?);
-        print_written(rt, &mut out, b"two")?;
-        print_text(rt, out.written())?;
+        failing_sink(rt, j)?;
     }
     Ok(())
 }

@@ -1,6 +1,6 @@
 //! The files of the system, and writers as sinks.
 
-use crate::memory::{print_text, print_whole, print_written};
+use crate::memory::{print_text, print_twice, print_whole, print_write, print_written};
 use crate::short::{Short, ShortFile};
 use anyhow::Result;
 use outside::{Files, OsFiles, OsSink, Sink};
@@ -32,32 +32,48 @@ pub fn all(rt: &HostRuntime, folder: &PathBuf) -> Result<()> {
     sink_in_memory(rt)
 }
 
+// Bytes that are no text.
+fn bytes() -> &'static [u8] {
+    b"some\xff bytes"
+}
+
+// Paths of a file, of a folder, of nothing, and through the file.
+#[derive(Drop)]
+struct Paths<'a> {
+    file: &'a str,
+    folder: &'a str,
+    none: &'a str,
+    through: &'a str,
+}
+
+fn write_real<F: Files>(rt: &HostRuntime, files: &mut F, paths: &Paths<'_>) -> Result<()> {
+    print_write(rt, files, paths.file, b"an older and longer text")?;
+    print_write(rt, files, paths.file, bytes())?;
+    print_write(rt, files, paths.through, bytes())?;
+    print_write(rt, files, paths.folder, bytes())
+}
+
+fn read_real<F: Files>(rt: &HostRuntime, files: &mut F, paths: &Paths<'_>) -> Result<()> {
+    print_whole(rt, files, paths.file, 11, bytes())?;
+    print_whole(rt, files, paths.file, 10, bytes())?;
+    print_whole(rt, files, paths.none, 99, bytes())?;
+    print_whole(rt, files, paths.through, 99, bytes())?;
+    print_whole(rt, files, paths.folder, 99, bytes())
+}
+
 // A file that is written and read; no such file; a path through a file; a folder in a file's place.
 fn real_files(rt: &HostRuntime, folder: &PathBuf, file: &str) -> Result<()> {
-    let alloc = rt.alloc();
-    let none = folder.join(alloc, "none")?;
-    let through = format!(in alloc; "{file}/none")?;
+    let none = folder.join(rt.alloc(), "none")?;
+    let through = format!(in rt.alloc(); "{file}/none")?;
+    let paths = Paths {
+        file,
+        folder: folder.as_str(),
+        none: none.as_str(),
+        through: through.as_str(),
+    };
     let mut files = OsFiles::new(rt.clone()?);
-    let text = b"some\xff bytes";
-    for (path, bytes) in [
-        (file, b"an older and longer text".as_slice()),
-        (file, text.as_slice()),
-        (through.as_str(), text.as_slice()),
-        (folder.as_str(), text.as_slice()),
-    ] {
-        let answer = files.write(path, bytes);
-        println!(rt; "  {answer:?}")?;
-    }
-    for (path, limit) in [
-        (file, 11),
-        (file, 10),
-        (none.as_str(), 99),
-        (through.as_str(), 99),
-        (folder.as_str(), 99),
-    ] {
-        print_whole(rt, &mut files, path, limit, text)?;
-    }
-    Ok(())
+    write_real(rt, &mut files, &paths)?;
+    read_real(rt, &mut files, &paths)
 }
 
 // A file that is written and read by calls of three bytes, of which so many don't fail.
@@ -68,10 +84,8 @@ fn short_files(rt: &HostRuntime, file: &str, left: u32) -> Result<()> {
         rt: rt.clone()?,
         left,
     });
-    let text = b"ten bytes.";
     print_whole(rt, &mut files, file, 99, b"old text")?;
-    let answer = files.write(file, text);
-    println!(rt; "  {answer:?}")?;
+    print_write(rt, &mut files, file, b"ten bytes.")?;
     print_text(rt, &fs::read(rt, file)?)
 }
 
@@ -82,8 +96,7 @@ fn short_sink(rt: &HostRuntime, file: &str, left: u32) -> Result<()> {
         file: fs::create(rt, file)?,
         left,
     });
-    print_written(rt, &mut out, b"some ")?;
-    print_written(rt, &mut out, b"bytes")?;
+    print_twice(rt, &mut out)?;
     print_text(rt, &fs::read(rt, file)?)
 }
 
