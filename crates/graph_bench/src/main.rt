@@ -1,5 +1,5 @@
-//! Builds what a routing graph is made of, from the files of a device, and prints how much there is: wires, tile types,
-//! slots of tiles, muxes and arcs. Its words are the family's folder, the profile's file and the device's name. Time it, or
+//! Builds what a routing graph is made of, from the files of a device, and prints how much there is: wires, muxes
+//! and arcs. Its words are the family's folder, the profile's file and the device's name. Time it, or
 //! count its instructions, from outside.
 #![tactic(auto)]
 
@@ -8,25 +8,17 @@ mod parts;
 
 use anyhow::{Context, Result};
 use device_names::Device;
-use device_wires::wires_with;
-use slot_wires::SlotWires;
+use device_numbers::DeviceNumbers;
 use std::alloc::Global;
 use std::env;
 use std::rt::Files;
-use tile_types::TileTypes;
-use type_shapes::shapes_of;
 
 // The line of counts of a device.
-fn line_of(alloc: Global, device: &Device<'_>) -> Result<String> {
-    let types = TileTypes::of(alloc, device)?;
-    let wires = wires_with(alloc, device, &types)?;
-    let slots = SlotWires::of(alloc, device, &types, &wires)?;
-    let shapes = shapes_of(alloc, types.types())?;
-    let (muxes, arcs) = parts::counts(alloc, &types, &slots, &shapes)?;
-    let wires = wires.len();
-    let kinds = types.types().len();
-    let tiles = slots.len();
-    Ok(format!(in alloc; "tiles {tiles} types {kinds} wires {wires} muxes {muxes} arcs {arcs}")?)
+fn line_of<'a>(alloc: Global, device: &'a Device<'a>) -> Result<String> {
+    let numbers = DeviceNumbers::new(alloc, device)?;
+    let (muxes, arcs) = parts::counts(alloc, &numbers)?;
+    let wires = numbers.wires().len();
+    Ok(format!(in alloc; "wires {wires} muxes {muxes} arcs {arcs}")?)
 }
 
 fn main(rt: HostRuntime) -> Result<()> {

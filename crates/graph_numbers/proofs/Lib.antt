@@ -1,4 +1,4 @@
 mod Lists
-mod Numbered
+pub mod Numbered
 mod Sorted
 mod Whole

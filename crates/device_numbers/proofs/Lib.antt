@@ -1,0 +1,2 @@
+mod MuxArcs
+mod Tiles
