@@ -1,2 +1,2 @@
-mod MuxArcs
-mod Tiles
+pub mod MuxArcs
+pub mod Tiles

@@ -26,18 +26,18 @@ use Rattle.tile_parts.specs.Slots.{mux_slots, arcs_in}
 use Rattle.tile_parts.proofs.Standing.{arcs_are}
 use Rattle.device_numbers.specs.Numbered.{Numbered, row_at, shape_in, shape_at, sources_at, arcs_at, arcs_from}
 
-below_of : {X : Type 0} (xs : List X) (i : ℕ) (x : X) → slice_get xs i ≡ Some x → i < length xs
+pub below_of : {X : Type 0} (xs : List X) (i : ℕ) (x : X) → slice_get xs i ≡ Some x → i < length xs
 below_of [] i x h = absurd (let no : ⊥ = cc in no)
 below_of (y ∷ ys) zero x h = omega arith
 below_of (y ∷ ys) (suc i) x h = (let k = below_of ys i x h in omega arith)
 
 -- what a mux by numbers is of: its tile, its place in the database, and the wire of its sink
-record MuxOf (n : Numbered) (m : MuxNumbers) : Type 0 where
-  tile : Tile
-  mux : Mux
-  in_tile : slice_get n.device.grid.tiles m.tile ≡ Some tile
-  at_place : slice_get (database_at n.device.types tile).muxes m.place ≡ Some mux
-  sink : number_in n.wires n.device.profile.rules tile mux.sink ≡ Some m.sink
+pub record MuxOf (n : Numbered) (m : MuxNumbers) : Type 0 where
+  pub tile : Tile
+  pub mux : Mux
+  pub in_tile : slice_get n.device.grid.tiles m.tile ≡ Some tile
+  pub at_place : slice_get (database_at n.device.types tile).muxes m.place ≡ Some mux
+  pub sink : number_in n.wires n.device.profile.rules tile mux.sink ≡ Some m.sink
 
 mux_made : (n : Numbered) (number place : ℕ) (tile : Tile) (mux : Mux) (m : MuxNumbers) (o : Option ℕ) → number_in n.wires n.device.profile.rules tile mux.sink ≡ o
     → slice_get n.device.grid.tiles number ≡ Some tile → slice_get (database_at n.device.types tile).muxes place ≡ Some mux
@@ -46,7 +46,7 @@ mux_made n number place tile mux m None e at there h = absurd (let no : ⊥ = cc
 mux_made n number place tile mux m (Some s) e at there h =
     subst (MuxOf n) (some_same h) (record { tile = tile; mux = mux; in_tile = at; at_place = there; sink = e })
 
-what_it_is : (n : Numbered) (m : MuxNumbers) → In (mux_numbers n.device n.wires) m → MuxOf n m
+pub what_it_is : (n : Numbered) (m : MuxNumbers) → In (mux_numbers n.device n.wires) m → MuxOf n m
 what_it_is n m i =
     let t = of_flat_map (λ (t : ℕ × Tile). tile_mux_numbers n.device n.wires t.0 t.1) (enumerate_from 0 n.device.grid.tiles) m i in
     let muxes = (database_at n.device.types t.0.1).muxes in
@@ -109,7 +109,7 @@ each_known n number (m ∷ ms) (g ∷ gs) h =
     ap (λ xs. xs ++ arcs_from n (number + 1) ms) (known_arcs n number m g (slice_get n.device.grid.tiles m.tile) refl first)
     ∙ ap (λ xs. arcs_of_known n.device n.wires number g ++ xs) (each_known n (number + 1) ms gs rest)
 
-all_known : (n : Numbered) (muxes : List MuxNumbers) → muxes ≡ mux_numbers n.device n.wires → arcs_from n 0 muxes ≡ arc_numbers n.device n.wires (muxes_of n.device n.wires)
+pub all_known : (n : Numbered) (muxes : List MuxNumbers) → muxes ≡ mux_numbers n.device n.wires → arcs_from n 0 muxes ≡ arc_numbers n.device n.wires (muxes_of n.device n.wires)
 all_known n muxes are = ap (arcs_from n 0) are ∙ each_known n 0 (mux_numbers n.device n.wires) (muxes_of n.device n.wires) (muxes_stand n.device n.wires)
 
 -- the arcs of the muxes from one on are its own, then those of the next

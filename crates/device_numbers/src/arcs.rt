@@ -9,7 +9,7 @@ ghost use Rattle.records.specs.Limits.{most_arcs, most_muxes};
 ghost use Rattle.tile_parts.specs.Slots.{arcs_in};
 ghost use Rattle.words.specs.Members.{In};
 
-use crate::{DeviceNumbers, NumbersError};
+use crate::{CountError, DeviceNumbers};
 use arc_rows::ArcInfo;
 use mux_rows::MuxInfo;
 use rr_ids::{Id, MuxId, WireId};
@@ -27,17 +27,17 @@ fn add_few(
     sink: WireId,
     row: &[Option<WireId>],
     sources: &[Option<SlotId>],
-) -> Result<(), NumbersError>
+) -> Result<(), CountError>
     ensures ok { OnOk result (arcs.new.items ≡ arcs.old.items ++ arcs_in row.now number sink sources.now) }
     ensures few { OnOk result (length arcs.new.items ≤ most_arcs) }
-    ensures too_many { IsErrOf result NumbersError.Arcs → most_arcs < length (arcs.old.items ++ arcs_in row.now number sink sources.now) }
+    ensures too_many { IsErrOf result CountError.TooMany → most_arcs < length (arcs.old.items ++ arcs_in row.now number sink sources.now) }
 {
     if sources.len() >= 4_294_967_296 {
-        return Err(NumbersError::Memory);
+        return Err(CountError::Memory);
     }
     add_arcs(arcs, number, sink, row, sources)?;
     if arcs.len() > MOST_ARCS {
-        return Err(NumbersError::Arcs);
+        return Err(CountError::TooMany);
     }
     Ok(())
 }
@@ -68,25 +68,25 @@ impl<'a> DeviceNumbers<'a> {
         arcs: &mut Vec<ArcInfo>,
         number: MuxId,
         mux: &MuxInfo,
-    ) -> Result<(), NumbersError>
+    ) -> Result<(), CountError>
         requires { In (mux_numbers self.now.device self.now.wires) mux.now }
         ensures ok { OnOk result (arcs.new.items ≡ arcs.old.items ++ arcs_at self.now number mux.now) }
         ensures few { OnOk result (length arcs.new.items ≤ most_arcs) }
-        ensures too_many { IsErrOf result NumbersError.Arcs → most_arcs < length (arcs.old.items ++ arcs_at self.now number mux.now) }
+        ensures too_many { IsErrOf result CountError.TooMany → most_arcs < length (arcs.old.items ++ arcs_at self.now number mux.now) }
     {
         let sources = self.sources(mux);
         add_few(arcs, number, mux.sink, self.row(mux.tile), sources)
     }
 
-    /// The arcs of muxes, by mux, then in file order, without those whose source is ignored; `Arcs` exactly where they are more
+    /// The arcs of muxes, by mux, then in file order, without those whose source is ignored; `TooMany` exactly where they are more
     /// than 2^25. The muxes are those of the device, as `muxes` gives them.
     #[tactic(auto, using(crate::proofs::MuxArcs::one_mux_more, crate::proofs::MuxArcs::no_mux_left, crate::proofs::MuxArcs::too_many_arcs, crate::proofs::MuxArcs::listed_at))]
-    pub fn arcs(&self, alloc: Global, muxes: &[MuxInfo]) -> Result<Vec<ArcInfo>, NumbersError>
+    pub fn arcs(&self, alloc: Global, muxes: &[MuxInfo]) -> Result<Vec<ArcInfo>, CountError>
         requires muxes { muxes.now ≡ mux_numbers self.now.device self.now.wires }
         requires few { length muxes.now ≤ most_muxes }
         ensures ok { IfOk result (λ arcs. arcs.items ≡ arc_numbers self.now.device self.now.wires (muxes_of self.now.device self.now.wires)) }
         ensures few { IfOk result (λ arcs. length arcs.items ≤ most_arcs) }
-        ensures too_many { IsErrOf result NumbersError.Arcs → most_arcs < length (arc_numbers self.now.device self.now.wires (muxes_of self.now.device self.now.wires)) }
+        ensures too_many { IsErrOf result CountError.TooMany → most_arcs < length (arc_numbers self.now.device self.now.wires (muxes_of self.now.device self.now.wires)) }
     {
         let mut arcs = Vec::new(alloc);
         for (number, mux) in muxes.iter().enumerate() {

@@ -3,9 +3,8 @@
 ghost use Rattle.std.specs.Prelude.{◌≡◌, IfOk, IsErrOf};
 ghost use Rattle.device_wires.specs.Named.{NamesTooMany};
 
-use crate::NumbersError;
 use device_names::Device;
-use device_wires::{Wires, wires_with};
+use device_wires::{Wires, WiresError, wires_with};
 use slot_wires::SlotWires;
 use std::alloc::Global;
 use std::marker::Model;
@@ -34,10 +33,10 @@ impl<'a> Model for DeviceNumbers<'a> {
 }
 
 impl<'a> DeviceNumbers<'a> {
-    /// Numbers the wires of a device; `Wires` exactly where they are more than 2^24.
-    pub fn new(alloc: Global, device: &'a Device<'a>) -> Result<DeviceNumbers<'a>, NumbersError>
+    /// Numbers the wires of a device; `TooMany` exactly where they are more than 2^24.
+    pub fn new(alloc: Global, device: &'a Device<'a>) -> Result<DeviceNumbers<'a>, WiresError>
         ensures device { IfOk result (λ d. d.device ≡ device.now) }
-        ensures wires { IsErrOf result NumbersError.Wires → NamesTooMany device.now }
+        ensures wires { IsErrOf result WiresError.TooMany → NamesTooMany device.now }
     {
         let types = TileTypes::of(alloc, device)?;
         let wires = wires_with(alloc, device, &types)?;

@@ -7,4 +7,4 @@ mod errors;
 mod muxes;
 
 pub use device::DeviceNumbers;
-pub use errors::NumbersError;
+pub use errors::CountError;

@@ -6,7 +6,7 @@ ghost use Rattle.graph_numbers.specs.Numbers.{mux_numbers};
 ghost use Rattle.records.specs.Limits.{most_muxes};
 ghost use Rattle.tile_parts.specs.Slots.{muxes_in};
 
-use crate::{DeviceNumbers, NumbersError};
+use crate::{CountError, DeviceNumbers};
 use mux_rows::MuxInfo;
 use rr_ids::{Id, TileId, WireId};
 use std::alloc::Global;
@@ -21,17 +21,17 @@ fn add_tile(
     tile: TileId,
     row: &[Option<WireId>],
     shape: &[MuxSlots],
-) -> Result<(), NumbersError>
+) -> Result<(), CountError>
     ensures ok { OnOk result (muxes.new.items ≡ muxes.old.items ++ muxes_in tile row.now shape.now) }
     ensures few { OnOk result (length muxes.new.items ≤ most_muxes) }
-    ensures too_many { IsErrOf result NumbersError.Muxes → most_muxes < length (muxes.old.items ++ muxes_in tile row.now shape.now) }
+    ensures too_many { IsErrOf result CountError.TooMany → most_muxes < length (muxes.old.items ++ muxes_in tile row.now shape.now) }
 {
     if shape.len() >= 4_294_967_296 {
-        return Err(NumbersError::Memory);
+        return Err(CountError::Memory);
     }
     add_muxes(muxes, tile, row, shape)?;
     if muxes.len() > MOST_MUXES {
-        return Err(NumbersError::Muxes);
+        return Err(CountError::TooMany);
     }
     Ok(())
 }
@@ -55,17 +55,17 @@ impl<'a> DeviceNumbers<'a> {
 
     // Adds the muxes of the tile of a number.
     #[tactic(auto, using(crate::proofs::Tiles::tile_muxes))]
-    fn add_muxes_of(&self, muxes: &mut Vec<MuxInfo>, tile: TileId) -> Result<(), NumbersError>
+    fn add_muxes_of(&self, muxes: &mut Vec<MuxInfo>, tile: TileId) -> Result<(), CountError>
         requires { tile < length self.now.device.grid.tiles }
         ensures ok { OnOk result (muxes.new.items ≡ muxes.old.items ++ muxes_at self.now tile) }
         ensures few { OnOk result (length muxes.new.items ≤ most_muxes) }
-        ensures too_many { IsErrOf result NumbersError.Muxes → most_muxes < length (muxes.old.items ++ muxes_at self.now tile) }
+        ensures too_many { IsErrOf result CountError.TooMany → most_muxes < length (muxes.old.items ++ muxes_at self.now tile) }
     {
         add_tile(muxes, tile, self.row(tile), self.shape(tile))
     }
 
-    // How many tiles there are.
-    pub(crate) fn tiles(&self) -> u32
+    /// How many tiles there are.
+    pub fn tiles(&self) -> u32
         ensures { result ≡ length self.now.device.grid.tiles }
     {
         let device = self.device;
@@ -73,13 +73,13 @@ impl<'a> DeviceNumbers<'a> {
         grid.tiles.len()
     }
 
-    /// The muxes of the device by tile, then in file order, without those whose sink is ignored; `Muxes` exactly where they are
+    /// The muxes of the device by tile, then in file order, without those whose sink is ignored; `TooMany` exactly where they are
     /// more than 2^23.
     #[tactic(auto, using(crate::proofs::Tiles::one_tile_more, crate::proofs::Tiles::none_left, crate::proofs::Tiles::too_many))]
-    pub fn muxes(&self, alloc: Global) -> Result<Vec<MuxInfo>, NumbersError>
+    pub fn muxes(&self, alloc: Global) -> Result<Vec<MuxInfo>, CountError>
         ensures ok { IfOk result (λ muxes. muxes.items ≡ mux_numbers self.now.device self.now.wires) }
         ensures few { IfOk result (λ muxes. length muxes.items ≤ most_muxes) }
-        ensures too_many { IsErrOf result NumbersError.Muxes → most_muxes < length (mux_numbers self.now.device self.now.wires) }
+        ensures too_many { IsErrOf result CountError.TooMany → most_muxes < length (mux_numbers self.now.device self.now.wires) }
     {
         let mut muxes = Vec::new(alloc);
         for number in 0..self.tiles() {

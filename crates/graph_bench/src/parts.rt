@@ -2,11 +2,13 @@
 
 use anyhow::Result;
 use device_numbers::DeviceNumbers;
+use graph_rows::rows_of;
 use std::alloc::Global;
 
 /// How many muxes and arcs a device has.
 pub fn counts(alloc: Global, numbers: &DeviceNumbers<'_>) -> Result<(usize, usize)> {
-    let muxes = numbers.muxes(alloc)?;
-    let arcs = numbers.arcs(alloc, muxes.as_slice())?;
-    Ok((muxes.len(), arcs.len()))
+    let rows = rows_of(alloc, numbers)?;
+    let muxes = &rows.muxes;
+    let arcs = &rows.arcs;
+    Ok((muxes.len(), arcs.arcs().len()))
 }

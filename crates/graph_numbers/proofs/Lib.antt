@@ -1,4 +1,4 @@
-mod Lists
+pub mod Lists
 pub mod Numbered
-mod Sorted
-mod Whole
+pub mod Sorted
+pub mod Whole

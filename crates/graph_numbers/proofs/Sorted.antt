@@ -21,7 +21,7 @@ numbers_at a m b h = of_arc (slice_get m.mux.arcs a.place) h
     of_arc None e = absurd (let no : ⊥ = cc in no)
     of_arc (Some arc) e = ap numbers_of (sym (let same : (let x : GraphArc = record { mux = a.mux; place = a.place; source = a.source; sink = a.sink; origin = m.origin; arc = arc } in x) ≡ b = cc in same))
 
-numbers_are : (muxes : List GraphMux) (a : ArcNumbers) (b : GraphArc) → arc_of muxes a ≡ Some b → numbers_of b ≡ a
+pub numbers_are : (muxes : List GraphMux) (a : ArcNumbers) (b : GraphArc) → arc_of muxes a ≡ Some b → numbers_of b ≡ a
 numbers_are muxes a b h = of_mux (slice_get muxes a.mux) h
   where
     of_mux : (o : Option GraphMux) → option_and_then (arc_at a) o ≡ Some b → numbers_of b ≡ a
