@@ -1,7 +1,7 @@
 //! Grids.
 
-use crate::phrases::{fault, plain_fault, push_line, push_number, push_word};
 use anyhow::Result;
+use case_tables::{fault, plain_fault, push_line, push_number, push_word};
 use std::alloc::Global;
 use tile_grid::{Grid, GridError, Tile};
 

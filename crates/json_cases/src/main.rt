@@ -1,15 +1,14 @@
 //! Reads tables of cases of grids, cell profiles and side files, and prints what their readers answer to each. Its words
-//! are pairs of a reader (`grid`, `profile` or `side`) and the path of a table (`table`). An answer is printed behind the reader and the number of
-//! the case's line: the fault by its name, or what was read.
+//! are pairs of a reader (`grid`, `profile` or `side`) and the path of a table (see `case_tables`). An answer is printed
+//! behind the reader and the number of the case's line: the fault by its name, or what was read.
 #![tactic(auto)]
 
 mod grid;
-mod phrases;
 mod profile;
 mod side;
-mod table;
 
 use anyhow::{Context, Result, bail};
+use case_tables::{bytes_of, is_case, text_of};
 use std::alloc::Global;
 use std::env;
 use std::rt::Files;
@@ -26,17 +25,17 @@ fn answer_to(alloc: Global, reader: &str, bytes: &[u8]) -> Result<Vec<u8>> {
 
 // What a reader answers to the case of a line.
 fn answer<R: Files + AllocGlobal>(rt: &R, reader: &str, line: &str) -> Result<Vec<u8>> {
-    let bytes = table::bytes_of(rt, line)?;
+    let bytes = bytes_of(rt, line)?;
     answer_to(rt.alloc(), reader, bytes.as_slice())
 }
 
 // The answers to the cases of a table.
 fn print_table<R: Files + Print + AllocGlobal>(rt: &R, reader: &str, path: &str) -> Result<()> {
-    let table = table::text_of(rt, path)?;
+    let table = text_of(rt, path)?;
     let mut number = 0u32;
     for line in table.lines() {
         number = number.saturating_add(1);
-        if table::is_case(line) {
+        if is_case(line) {
             let answer = answer(rt, reader, line).context(format_args!("{path}, line {number}"))?;
             let answer = std::str::from_utf8(answer.as_slice()).context(
                 "an answer that is no text",

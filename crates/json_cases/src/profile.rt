@@ -1,7 +1,7 @@
 //! Cell profiles.
 
-use crate::phrases::{fault, plain_fault, push_line, push_number, push_word};
 use anyhow::Result;
+use case_tables::{fault, plain_fault, push_line, push_number, push_word};
 use cell_profile::{
     Case, Choice, Join, PadKind, Profile, ProfileError, RegisterKind, Require, SliceKind,
     TableKind, Take,

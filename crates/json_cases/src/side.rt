@@ -1,7 +1,7 @@
 //! Side files.
 
-use crate::phrases::{fault, plain_fault};
 use anyhow::Result;
+use case_tables::{fault, plain_fault};
 use side_file::{Side, SideError};
 use std::alloc::Global;
 
