@@ -8,6 +8,3 @@ mod parts;
 mod places;
 
 pub use names::DatabaseNames;
-
-#[cfg(test)]
-mod tests;
