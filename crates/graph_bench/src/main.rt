@@ -1,9 +1,10 @@
 //! Builds what a routing graph is made of, from the files of a device, and prints how much there is: wires, muxes
-//! and arcs. Its words are the family's folder, the profile's file and the device's name. Time it, or
+//! and arcs, and how many names are found in the databases of its first tiles. Its words are the family's folder, the profile's file and the device's name. Time it, or
 //! count its instructions, from outside.
 #![tactic(auto)]
 
 mod files;
+mod named;
 mod parts;
 
 use anyhow::{Context, Result};
@@ -35,6 +36,7 @@ fn main(rt: HostRuntime) -> Result<()> {
         profile: &profile,
     };
     let line = line_of(rt.alloc(), &device)?;
-    println!(&rt; "{line}")?;
+    let names = named::found_in(rt.alloc(), &grid, &databases)?;
+    println!(&rt; "{line} names {names}")?;
     Ok(())
 }
