@@ -1,0 +1,4 @@
+mod Faults
+mod Found
+mod Pairs
+mod WordBits

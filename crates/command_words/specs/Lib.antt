@@ -1,0 +1,4 @@
+pub mod Rips
+pub mod Kinds
+pub mod Views
+pub mod Pairs
