@@ -1,0 +1,2 @@
+mod WordBits
+pub mod Tied
