@@ -1,0 +1,7 @@
+//! Links that are joined to a clean routing, and grow and shrink: the last link that was added is taken back first.
+#![tactic(auto)]
+
+mod feeds;
+mod stack;
+
+pub use stack::LinkStack;
