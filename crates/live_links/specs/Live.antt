@@ -1,5 +1,5 @@
 -- Links that are added to a clean routing one after the other, and taken back in reverse. (Our own.)
-use Rattle.std.specs.Prelude.{◌≡◌, ◌≢◌, ℕ, ◌<◌, ◌==◌, List, [], ◌∷◌, ◌++◌, length, get_or}
+use Rattle.std.specs.Prelude.{◌≡◌, ◌≢◌, ℕ, ◌<◌, ◌==◌, List, [], ◌∷◌, ◌++◌, length, get_or, drop}
 use Rattle.std.specs.List.{count_by}
 use Rattle.links.specs.Links.{Link, Routing, Below, Drives, Fed}
 use Rattle.repair.specs.Usable.{HasOneDriver}
@@ -16,6 +16,10 @@ present s = record { links = s.links ++ s.base.links; outputs = s.base.outputs }
 
 abbrev pub with_link : Stacked → Link → Stacked
 with_link s l = record { base = s.base; links = l ∷ s.links; more = s.more }
+
+-- the same without the last link
+abbrev pub without_last : Stacked → Stacked
+without_last s = record { base = s.base; links = drop 1 s.links; more = s.more }
 
 -- A link may be added: its source has a feed, and its sink no driver; each other wire below the sink has just one, no wire
 -- below it has a feed (so none is a cell output), and there is room for it.

@@ -1,6 +1,6 @@
 //! Feeds are given to the wires below one, and cleared again.
 
-ghost use Rattle.std.specs.Prelude.{◌≡◌, ℕ, ◌+◌, ◌<◌, List, [], ◌∷◌, length, get_or, slice_get, slice_set, None, Some, OnErr, OnOk};
+ghost use Rattle.std.specs.Prelude.{◌≡◌, ℕ, ◌+◌, ◌<◌, ◌≤◌, List, [], length, drop, get_or, slice_get, slice_set, None, Some, OnErr, OnOk};
 ghost use Rattle.words.specs.Members.{In};
 ghost use Rattle.wire_feeds.specs.Rows.{AreRowsWithin};
 ghost use Rattle.wire_feeds.specs.Walks.{Walk, feeds_with, open_count};
@@ -21,6 +21,7 @@ fn clear_one(feeds: &mut [Option<WireId>], wire: WireId)
 }
 
 /// Takes the feeds of wires away.
+#[tactic(auto, using(crate::proofs::Clearing::cleared_push))]
 pub(crate) fn clear(feeds: &mut [Option<WireId>], mut fed: Vec<WireId>)
     ensures { feeds.new ≡ cleared fed.items feeds.old }
 {
@@ -37,8 +38,8 @@ fn feed_at(feeds: &[Option<WireId>], wire: WireId) -> Option<WireId>
     feeds[wire.to_u32() as usize]
 }
 
-// Gives a wire a feed.
-fn put_feed(feeds: &mut [Option<WireId>], wire: WireId, feed: WireId)
+/// Gives a wire a feed.
+pub(crate) fn put_feed(feeds: &mut [Option<WireId>], wire: WireId, feed: WireId)
     requires { wire < length feeds.old }
     ensures { feeds.new ≡ slice_set feeds.old wire (Some feed) }
 {
@@ -62,5 +63,65 @@ fn note(
     }
     fed.push(wire)?;
     put_feed(feeds, wire, feed);
+    Ok(())
+}
+
+// Notes each wire of a row, which is next to one that has the feed. Once those that are listed are cleared, all is as before.
+fn spread_row(
+    row: &[WireId],
+    feed: WireId,
+    feeds: &mut [Option<WireId>],
+    fed: &mut Vec<WireId>,
+) -> Result<(), AllocError>
+    requires within { (w : ℕ) → In row.now w → w < length feeds.old }
+    ensures walk { OnOk result ((rows : List (List ℕ)) (outputs : List ℕ) (from at : ℕ) → at ≤ length fed.old.items → get_or rows from [] ≡ row.now
+        → get_or feeds.old from None ≡ Some feed → Walk rows outputs from feeds.old (waiting feed (drop at fed.old.items))
+        → Walk rows outputs (length rows) feeds.new (waiting feed (drop at fed.new.items))) }
+    ensures count { OnOk result (open_count feeds.new + length fed.new.items ≡ open_count feeds.old + length fed.old.items) }
+    ensures grows { OnOk result (length fed.old.items ≤ length fed.new.items) }
+    ensures undo { cleared fed.new.items feeds.new ≡ cleared fed.old.items feeds.old }
+{
+    for w in row {
+        note(feeds, fed, *w, feed)?;
+    }
+    Ok(())
+}
+
+// The wire at a place; none where no wire stands there.
+fn wire_at(fed: &Vec<WireId>, at: usize) -> Option<WireId>
+    ensures { result ≡ slice_get fed.now.items at }
+{
+    fed.as_slice().get(at).copied()
+}
+
+/// The row of a wire, empty where the wire has none.
+pub(crate) fn row_of(rows: &OpenRows<WireId, WireId>, w: WireId) -> &[WireId]
+    ensures { result.now ≡ get_or rows.now.rows w [] }
+{
+    if w.to_u32() as usize >= rows.len() {
+        return &[];
+    }
+    rows.row(w)
+}
+
+/// Gives the feed to all wires below those that are listed and have it, and lists these too. Once those that are listed are
+/// cleared, all is as before.
+pub(crate) fn spread(
+    next: &OpenRows<WireId, WireId>,
+    feed: WireId,
+    feeds: &mut [Option<WireId>],
+    fed: &mut Vec<WireId>,
+) -> Result<(), AllocError>
+    requires within { AreRowsWithin next.now.rows }
+    requires long { length feeds.old ≡ length next.now.rows }
+    ensures walk { OnOk result ((outputs : List ℕ) → Walk next.now.rows outputs (length next.now.rows) feeds.old (waiting feed fed.old.items)
+        → Walk next.now.rows outputs (length next.now.rows) feeds.new []) }
+    ensures undo { cleared fed.new.items feeds.new ≡ cleared fed.old.items feeds.old }
+{
+    let mut at = 0;
+    'walk: while let Some(wire) = wire_at(fed, at) {
+        spread_row(row_of(next, wire), feed, feeds, fed)?;
+        at += 1;
+    }
     Ok(())
 }

@@ -1,7 +1,8 @@
 //! Links that are joined to a clean routing, and grow and shrink: the last link that was added is taken back first.
 #![tactic(auto)]
 
+mod added;
 mod feeds;
-mod stack;
+mod grow;
 
-pub use stack::LinkStack;
+pub use added::AddedLink;
