@@ -1,5 +1,6 @@
 -- A link is put into rows, and taken back.
-use Rattle.std.proofs.Common.{◌≡◌, ℕ, ◌+◌, ◌<◌, List, [], ◌∷◌, ◌++◌, Option, Some, None, length, get_or, set, refl, sym, ap, ap₂, subst, ◌∙◌, arith}
+use Rattle.std.proofs.Common.{◌≡◌, ℕ, ◌+◌, ◌<◌, List, [], ◌∷◌, ◌++◌, Option, Some, None, length, get_or, set, Result, Ok, Err, refl, sym, ap, ap₂, subst, ◌∙◌, arith}
+use Rattle.std.specs.Prelude.{OnErr}
 use Rattle.std.proofs.lemmas.List.{length-set, length_push}
 use Rattle.links.specs.Links.{Link}
 use Rattle.open_rows.specs.Rows.{Rows, popped, pushed}
@@ -11,14 +12,19 @@ use Rattle.live_links.specs.Joined.{CanGrow, HasGrown, grown_rows, shrunk_rows}
 use Rattle.live_links.proofs.Clearing.{cleared_one}
 use Rattle.live_links.proofs.Pushing.{popped_pushed, pushed_row}
 
+-- what holds, holds where a call fails
+pub on_err : {T E : Type 0} (r : Result T E) (P : Type 0) → P → OnErr r P
+on_err (Ok x) P p = tt
+on_err (Err e) P p = p
+
 -- rows with one room are alike where the rows are
 pub rows_same : (r s : Rows ℕ) → r.rows ≡ s.rows → r.room ≡ s.room → r ≡ s
 rows_same r s a b = let f : List (List ℕ) → List ℕ → Rows ℕ = λ x y. record { rows = x; room = y } in ap₂ f a b
 
 -- what was put into rows is taken back
-pub shrunk_grown : (r now back : Rows ℕ) (k v : ℕ) → k < length r.rows → now ≡ grown_rows r k v → back ≡ shrunk_rows now k → back ≡ r
-shrunk_grown r now back k v below grew shrank =
-    shrank ∙ (ap (λ (z : Rows ℕ). shrunk_rows z k) grew ∙ rows_same (shrunk_rows (grown_rows r k v) k) r (popped_pushed r.rows k v below) refl)
+pub shrunk_grown : (r now back : Rows ℕ) (k v at : ℕ) → k < length r.rows → now ≡ grown_rows r k v → back ≡ shrunk_rows now at → at ≡ k → back ≡ r
+shrunk_grown r now back k v at below grew shrank is =
+    shrank ∙ ap (λ (n : ℕ). shrunk_rows now n) is ∙ (ap (λ (z : Rows ℕ). shrunk_rows z k) grew ∙ rows_same (shrunk_rows (grown_rows r k v) k) r (popped_pushed r.rows k v below) refl)
 
 pub grown_filled : (r now : Rows ℕ) (k v at : ℕ) → k < length r.rows → now ≡ grown_rows r k v → at ≡ k → 0 < length (get_or now.rows at [])
 grown_filled r now k v at below grew is =

@@ -53,11 +53,11 @@ module _ (r : Routing) (x w : ℕ) where
   drives_new a b source sink =
       subst (λ z. Drives (grown r x w) z b) source (subst (λ z. Drives (grown r x w) x z) sink (inl refl))
 
-  below_either : (c : ℕ) {a : ℕ} → Below (grown r x w) c a → Below r c a ⊎ Below r w a
-  below_either c here = inl here
-  below_either c (onto {b} {v} q s) = elim (drives_either b v s) [
+  below_either : (o : ℕ) {a : ℕ} → Below (grown r x w) o a → Below r o a ⊎ Below r w a
+  below_either o here = inl here
+  below_either o {a} (onto {b} q s) = elim (drives_either b a s) [
     | inl e ↦ inr (subst (λ z. Below r w z) e.1 here)
-    | inr d ↦ elim (below_either c q) [ inl p ↦ inl (onto p d) | inr p ↦ inr (onto p d) ]
+    | inr d ↦ elim (below_either o q) [ inl p ↦ inl (onto p d) | inr p ↦ inr (onto p d) ]
   ]
 
   fed_either : (a : ℕ) → Fed (grown r x w) a → Fed r a ⊎ Below r w a

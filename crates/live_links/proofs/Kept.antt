@@ -1,10 +1,11 @@
 -- What is kept in vectors, once a link is added or taken back.
 use Rattle.std.proofs.Common.{◌≡◌, ℕ, ◌+◌, ◌<◌, ◌≤◌, List, [], ◌∷◌, ◌++◌, Option, Some, None, length, get_or, take, drop, refl, sym, ap, ap₂, subst, ◌∙◌, arith}
-use Rattle.std.specs.Prelude.{reverse}
+use Rattle.std.specs.Prelude.{reverse, IsSome, MatchOption}
 use Rattle.std.specs.Option.{option_to_list}
 use Rattle.std.proofs.lemmas.List.{append-nil, drop_all, length-map, length-reverse, reverse-append, take_all}
-use Rattle.links.specs.Links.{Link}
+use Rattle.links.specs.Links.{Fed, Feeds, Link, Routing}
 use Rattle.open_rows.specs.Rows.{Rows}
+use Rattle.wire_feeds.specs.Rows.{AreFeeds}
 use Rattle.wire_feeds.specs.Walks.{IsFed}
 use Rattle.live_links.specs.declared.added.AddedLink.{AddedLink}
 use Rattle.live_links.specs.Feeding.{cleared}
@@ -17,6 +18,11 @@ use Rattle.live_links.proofs.Stacking.{added_on, can_grow, drivers_filled, joine
 pub whole : (xs items : List (Option ℕ)) (len : ℕ) → length items ≤ length xs → length xs ≤ len → take len (xs ++ drop (length xs) items) ≡ xs
 whole xs items len less all =
     ap (λ (ys : List (Option ℕ)). take len (xs ++ ys)) (drop_all (length xs) items less) ∙ (ap (λ (ys : List (Option ℕ)). take len ys) (append-nil xs) ∙ take_all len xs all)
+
+-- an answer that is there
+pub some_is : (o : Option ℕ) (c : ℕ) → o ≡ Some c → IsSome o
+some_is (Some d) c is = refl
+some_is None c is = absurd (let no : ⊥ = cc in no)
 
 last_first : (items : List AddedLink) (a : AddedLink) → reverse (items ++ a ∷ []) ≡ a ∷ reverse items
 last_first items a = reverse-append items (a ∷ [])
@@ -112,3 +118,8 @@ links_long items drivers next outputs value is =
 -- the last one is popped
 pub popped_last : (items items_now : List AddedLink) (found : Option AddedLink) (a : AddedLink) → items ≡ items_now ++ option_to_list found → found ≡ Some a → items ≡ items_now ++ a ∷ []
 popped_last items items_now found a is some = is ∙ ap (λ (o : Option AddedLink). items_now ++ option_to_list o) some
+
+-- what a list of feeds tells of a wire
+pub feed_tells : (r : Routing) (feeds : List (Option ℕ)) (w : ℕ) (found : Option ℕ) → AreFeeds r feeds → get_or feeds w None ≡ found → MatchOption found (Fed r w → ⊥) (λ c. Feeds r c w)
+feed_tells r feeds w (Some c) are is = are.fed w c is
+feed_tells r feeds w None are is = are.unfed w is

@@ -5,3 +5,5 @@ pub mod Feeding
 pub mod Stacking
 pub mod Growing
 pub mod Kept
+pub mod Opening
+pub mod Beginning

@@ -42,15 +42,17 @@ more_at (r ∷ rs) (row ∷ rows) (suc x) n h = more_at rs rows x n h
 -- a link that is added is counted
 counted_one : (l : Link) (ls : List Link) (x : ℕ) → l.source ≡ x → count_by (λ (a : Link). a.source == x) (l ∷ ls) ≡ suc (count_by (λ (a : Link). a.source == x) ls)
 counted_one l ls x is =
-    let cons = sum_by-cons (λ (a : Link). cond (a.source == x) 1 0) l ls in
-    let one : cond (l.source == x) 1 0 ≡ 1 = ap (λ (b : Bool). cond b 1 0) (eq-eqb l.source x is) in
-    omega arith
+    let f : Link → ℕ = λ a. cond (a.source == x) 1 0 in
+    let cons = sum_by-cons f l ls in
+    let one : f l ≡ 1 = ap (λ (b : Bool). let n : ℕ = cond b 1 0 in n) (eq-eqb l.source x is) in
+    omega (arith, cons, one)
 
 counted_other : (l : Link) (ls : List Link) (x : ℕ) → l.source ≢ x → count_by (λ (a : Link). a.source == x) (l ∷ ls) ≡ count_by (λ (a : Link). a.source == x) ls
 counted_other l ls x other =
-    let cons = sum_by-cons (λ (a : Link). cond (a.source == x) 1 0) l ls in
-    let none : cond (l.source == x) 1 0 ≡ 0 = ap (λ (b : Bool). cond b 1 0) (ne_eqb l.source x other) in
-    omega arith
+    let f : Link → ℕ = λ a. cond (a.source == x) 1 0 in
+    let cons = sum_by-cons f l ls in
+    let none : f l ≡ 0 = ap (λ (b : Bool). let n : ℕ = cond b 1 0 in n) (ne_eqb l.source x other) in
+    omega (arith, cons, none)
 
 -- a link is taken back
 module _ (a : AddedLink) (rest : List AddedLink) (drivers next : Rows ℕ) (feeds : List (Option ℕ)) (outputs : List ℕ) (keeps : IsLinkStack (a ∷ rest) drivers next feeds outputs) where

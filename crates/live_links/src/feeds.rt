@@ -3,7 +3,7 @@
 ghost use Rattle.std.specs.Prelude.{◌≡◌, ℕ, ◌+◌, ◌<◌, ◌≤◌, List, [], length, drop, get_or, slice_get, slice_set, None, Some, OnErr, OnOk};
 ghost use Rattle.words.specs.Members.{In};
 ghost use Rattle.wire_feeds.specs.Rows.{AreRowsWithin};
-ghost use Rattle.wire_feeds.specs.Walks.{Walk, feeds_with, open_count};
+ghost use Rattle.wire_feeds.specs.Walks.{IsFed, Walk, feeds_with, open_count};
 ghost use Rattle.live_links.specs.Feeding.{cleared, fed_with, waiting};
 
 use open_rows::OpenRows;
@@ -36,6 +36,25 @@ fn feed_at(feeds: &[Option<WireId>], wire: WireId) -> Option<WireId>
     ensures { result ≡ get_or feeds.now wire None }
 {
     feeds[wire.to_u32() as usize]
+}
+
+/// The feed of a wire; none also where there is no such wire.
+pub(crate) fn feed_or_none(feeds: &[Option<WireId>], wire: WireId) -> Option<WireId>
+    ensures { result ≡ get_or feeds.now wire None }
+{
+    let place = wire.to_u32() as usize;
+    if place >= feeds.len() {
+        return None;
+    }
+    feeds[place]
+}
+
+/// The feed of a wire that has one.
+pub(crate) fn feed_of(feeds: &[Option<WireId>], wire: WireId) -> WireId
+    requires { IsFed feeds.now wire }
+    ensures { get_or feeds.now wire None ≡ Some result }
+{
+    feed_or_none(feeds, wire).unwrap()
 }
 
 /// Gives a wire a feed.

@@ -119,5 +119,6 @@ pub(crate) fn put_on(
         × ((drivers.new ≡ drivers.old) × ((next.new ≡ next.old) × (feeds.new ≡ feeds.old)))) }
 {
     let added = grow(alloc, drivers, next, feeds, link, feed)?;
-    keep(stack, drivers, next, feeds, added)
+    keep(stack, drivers, next, feeds, added)?;
+    Ok(())
 }

@@ -4,5 +4,8 @@
 mod added;
 mod feeds;
 mod grow;
+mod opened;
+mod stack;
 
 pub use added::AddedLink;
+pub use stack::LinkStack;
