@@ -2,8 +2,11 @@
 use Rattle.std.proofs.Common.{◌≡◌, ◌≢◌, ℕ, zero, suc, ◌+◌, ◌-◌, ◌<◌, ◌≤◌, List, [], ◌∷◌, ◌++◌, map, length, get_or, set, take, drop, refl, sym, ap, ap₂, subst, ◌∙◌, inl, inr, arith}
 use Rattle.std.specs.Ordering.{nat_cmp}
 use Rattle.std.proofs.lemmas.Bool.{cases_eq, cases_lt}
-use Rattle.std.proofs.lemmas.List.{append-nil, append_assoc, drop_more, drop_all, ext_get_or, get_or-set_same, get_or-set_other, get_or_past, length-set, length-append, set-get_or, set-set, take_more}
+use Rattle.std.proofs.lemmas.List.{append-nil, append_assoc, drop_more, drop_all, ext_get_or, get_or-set_same, get_or-set_other, get_or_past, length-set, length-append, set-get_or, set-set, take_all, take_more, length-take-le}
+use Rattle.std.specs.Prelude.{slice_get, Some}
+use Rattle.std.proofs.lemmas.Option.{get_or_from_slice_get}
 use Rattle.words.specs.Members.{In}
+use Rattle.open_rows.specs.Rows.{HasRoom, Rows, pushed}
 use Rattle.words.specs.Twice.{HasNoneTwice}
 use Rattle.fabric.specs.InOrder.{IsRising}
 use Rattle.wire_contests.proofs.Deciding.{less_from}
@@ -71,3 +74,49 @@ filled_all rows opened k are all = ext_get_or [] opened rows are.long (λ j belo
 pub rising_once : (xs : List ℕ) → IsRising nat_cmp xs → HasNoneTwice xs
 rising_once [] h = tt
 rising_once (x ∷ xs) h = ((λ i. absurd (let l = less_from x x (h.0 x i) in omega arith)), rising_once xs h.1)
+
+-- a row is filled item by item
+pub record IsRowFilled (old now : Rows ℕ) (w i : ℕ) (row : List ℕ) : Type 0 where
+  pub rows : now.rows ≡ set old.rows w (get_or old.rows w [] ++ take i row)
+  pub room : now.room ≡ old.room
+
+pub row_begun : (old : Rows ℕ) (w : ℕ) (row : List ℕ) → IsRowFilled old old w 0 row
+row_begun old w row = record {
+  rows = sym (ap (λ (r : List ℕ). set old.rows w r) (append-nil (get_or old.rows w [])) ∙ set-get_or old.rows w []);
+  room = refl;
+}
+
+row_now : (old now : Rows ℕ) (w i : ℕ) (row : List ℕ) → IsRowFilled old now w i row → w < length old.rows → get_or now.rows w [] ≡ get_or old.rows w [] ++ take i row
+row_now old now w i row are known = ap (λ (r : List (List ℕ)). get_or r w []) are.rows ∙ get_or-set_same old.rows w (get_or old.rows w [] ++ take i row) [] known
+
+pub row_has_room : (old now : Rows ℕ) (w i : ℕ) (row : List ℕ) → IsRowFilled old now w i row → w < length old.rows
+    → length (get_or old.rows w []) + length row ≤ get_or old.room w 0 → i < length row → HasRoom now w
+row_has_room old now w i row are known room below =
+    let here = ap length (row_now old now w i row are known) in
+    let both = length-append (get_or old.rows w []) (take i row) in
+    let front = length-take-le i row (omega arith) in
+    let same = ap (λ (r : List ℕ). get_or r w 0) are.room in
+    omega arith
+
+pub row_more : (old now new : Rows ℕ) (w i x : ℕ) (row : List ℕ) → IsRowFilled old now w i row → w < length old.rows → i < length row → x ≡ get_or row i x
+    → new.rows ≡ pushed now.rows w x → new.room ≡ now.room → IsRowFilled old new w (i + 1) row
+row_more old now new w i x row are known below is rows_is room_is =
+    let r : List ℕ = get_or old.rows w [] in
+    let item : take i row ++ x ∷ [] ≡ take (i + 1) row = ap (λ z. take i row ++ z ∷ []) is ∙ sym (take_more row i x below) in
+    let end : get_or now.rows w [] ++ x ∷ [] ≡ r ++ take (i + 1) row =
+        ap (λ (z : List ℕ). z ++ x ∷ []) (row_now old now w i row are known) ∙ (append_assoc r (take i row) (x ∷ []) ∙ ap (λ (z : List ℕ). r ++ z) item) in
+    record {
+      rows = rows_is ∙ (ap (λ (z : List ℕ). set now.rows w z) end ∙ (ap (λ (z : List (List ℕ)). set z w (r ++ take (i + 1) row)) are.rows ∙ set-set old.rows w (r ++ take i row) (r ++ take (i + 1) row)));
+      room = room_is ∙ are.room;
+    }
+
+pub row_whole : (old now : Rows ℕ) (w i : ℕ) (row : List ℕ) → IsRowFilled old now w i row → length row ≤ i → now.rows ≡ set old.rows w (get_or old.rows w [] ++ row)
+row_whole old now w i row are all = are.rows ∙ ap (λ (z : List ℕ). set old.rows w (get_or old.rows w [] ++ z)) (take_all i row all)
+
+-- one more room is made
+pub rooms_more : (rows : List (List ℕ)) (more made : List ℕ) (k room : ℕ) (row : List ℕ) → k < length rows → k < length more → Some row ≡ slice_get rows k → room ≡ length row + get_or more k 0
+    → made ++ rooms_of (drop k rows) (drop k more) ≡ rooms_of rows more → (made ++ room ∷ []) ++ rooms_of (drop (k + 1) rows) (drop (k + 1) more) ≡ rooms_of rows more
+rooms_more rows more made k room row below within row_is room_is all =
+    let later : List ℕ = rooms_of (drop (k + 1) rows) (drop (k + 1) more) in
+    let here : room ≡ length (get_or rows k []) + get_or more k 0 = room_is ∙ ap (λ (r : List ℕ). length r + get_or more k 0) (sym (get_or_from_slice_get rows k row [] (sym row_is))) in
+    append_assoc made (room ∷ []) later ∙ (ap (λ (xs : List ℕ). made ++ xs) (ap (λ z. z ∷ later) here ∙ sym (rooms_left rows more k below within)) ∙ all)

@@ -1,21 +1,25 @@
 //! Links that are added one after the other, and taken back in reverse.
 
-ghost use Rattle.std.specs.Prelude.{◌≡◌, ℕ, ◌<◌, ◌↔◌, length, OnErr, OnOk, MatchOption};
+ghost use Rattle.std.specs.Prelude.{◌≡◌, ℕ, ◌<◌, ◌^◌, ◌↔◌, [], length, IfOk, OnErr, OnOk, MatchOption, MatchResult};
 ghost use Rattle.std.specs.Ordering.{nat_cmp};
 ghost use Rattle.words.specs.Members.{In};
 ghost use Rattle.words.specs.Twice.{HasNoneTwice};
-ghost use Rattle.fabric.specs.InOrder.{IsRising};
+ghost use Rattle.fabric.specs.InOrder.{InOrderOnce, IsRising};
+ghost use Rattle.link_order.specs.Order.{AreWithin, link_cmp};
 ghost use Rattle.links.specs.Links.{Drives, Fed, Feeds, IsClean};
+ghost use Rattle.wire_links.specs.Refused.{Refuses, as_routing};
 ghost use Rattle.live_links.specs.Live.{IsAddable, present, with_link, without_last};
 
 use crate::added::AddedLink;
 use crate::feeds::{feed_of, feed_or_none, row_of};
 use crate::grow::{put_on, take_back};
+use crate::opened::{ones, opened};
 use link_order::Link;
 use open_rows::OpenRows;
 use rr_ids::WireId;
 use std::alloc::{AllocError, Global};
 use std::marker::Model;
+use wire_links::{JoinedRows, LinksError};
 
 /// Links that are joined to a clean routing, and grow and shrink link by link. Contracts see the routing that it was made
 /// of, the links that were added, the last one first, and how many may be added out of each wire.
@@ -33,7 +37,8 @@ pub struct LinkStack {
 
 impl Model for LinkStack {
     ghost use Rattle.std.specs.Prelude.{reverse};
-    ghost use Rattle.live_links.specs.Live.{Stacked};
+    ghost use Rattle.wire_links.specs.Refused.{Refuses, as_routing};
+ghost use Rattle.live_links.specs.Live.{Stacked};
     ghost use Rattle.live_links.specs.Joined.{IsLinkStack, stacked};
 
     ghost Value = { Stacked };
@@ -44,6 +49,41 @@ impl Model for LinkStack {
 }
 
 impl LinkStack {
+    /// Joins links between wires whose numbers are below `wires`, with room for so many `more` links out of each wire.
+    /// `Contested` exactly where the links aren't clean, as `WireLinks::new`. Want of memory also where the room passes
+    /// 4,294,967,295 links. Takes time in proportion to the wires, links, outputs and the room.
+    pub fn new(
+        alloc: Global,
+        wires: u32,
+        links: &[Link],
+        outputs: &[WireId],
+        more: &[u32],
+    ) -> Result<LinkStack, LinksError>
+        requires within { AreWithin wires links.now }
+        requires few { length links.now < 2 ^ 32 }
+        requires outputs { (c : ℕ) → In outputs.now c → c < wires }
+        requires more { length more.now ≡ wires }
+        ensures links { IfOk result (λ s. InOrderOnce link_cmp links.now s.base.links) }
+        ensures outputs { IfOk result (λ s. s.base.outputs ≡ outputs.now) }
+        ensures none { IfOk result (λ s. s.links ≡ []) }
+        ensures more { IfOk result (λ s. s.more ≡ more.now) }
+        ensures answer { MatchResult result (λ _. IsClean (as_routing links.now outputs.now)) (Refuses (as_routing links.now outputs.now)) }
+    {
+        let rows = JoinedRows::new(alloc, wires, links, outputs)?;
+        let one_each = ones(alloc, wires)?;
+        let drivers = opened(alloc, &rows.drivers, &one_each)?;
+        let next = opened(alloc, &rows.next, more)?;
+        let outputs = Vec::from_slice(alloc, outputs)?;
+        Ok(LinkStack {
+            alloc,
+            drivers,
+            next,
+            feeds: rows.feeds,
+            outputs,
+            added: Vec::new(alloc),
+        })
+    }
+
     /// Adds a link, and gives the feed of its source to all wires below its sink. Where memory runs out, all stays. It costs
     /// the wires below the sink and the links between them.
     pub fn add(&mut self, link: Link) -> Result<(), AllocError>

@@ -1,6 +1,7 @@
 use Rattle.std.proofs.Common.{◌≡◌, ℕ, ◌<◌, List, Option, Some, None, length, get_or, refl, sym, ap, subst, ◌∙◌, arith}
 use Rattle.std.specs.Prelude.{reverse}
-use Rattle.links.specs.Links.{IsClean}
+use Rattle.links.specs.Links.{IsClean, Link}
+use Rattle.wire_feeds.specs.Walks.{IsFed}
 use Rattle.live_links.specs.Joined.{IsLinkStack, stacked}
 use Rattle.live_links.specs.Live.{Stacked, present, with_link}
 use Rattle.live_links.proofs.Growing.{on_err}
@@ -11,19 +12,20 @@ use Rattle.live_links.proofs.stack.LinkStack.add.Goals.{After-put_on, In_ok-put_
 pub feed_of-feed-requires : goal.feed_of-feed-requires
 feed_of-feed-requires c =
     let i = c.self.inside in
-    source_fed (reverse i.added.items) i.drivers i.next i.feeds.items c.deref.result.now i.outputs.items c.args.self.now c.args.link c.self.invariant c.self.view_is c.requires c.deref.ensures.value
+    subst (λ (l : Link). IsFed c.deref.result.now l.source) (sym c.link.view_is)
+    (source_fed (reverse i.added.items) i.drivers i.next i.feeds.items c.deref.result.now i.outputs.items c.args.self.now c.args.link c.self.invariant c.self.view_is c.requires c.deref.ensures.value)
 
 pub put_on-requires : goal.put_on-requires
 put_on-requires c =
     let i = c.self.inside in
-    let fed = sym (ap (λ (fs : List (Option ℕ)). get_or fs c.args.link.source None) c.deref.ensures.value) ∙ c.feed_of-feed.ensures in
+    let fed = sym (ap (λ (fs : List (Option ℕ)). get_or fs c.args.link.source None) c.deref.ensures.value) ∙ (sym (ap (λ (l : Link). get_or c.deref.result.now l.source None) c.link.view_is) ∙ c.feed_of-feed.ensures) in
     may_grow (reverse i.added.items) i.drivers i.next i.feeds.items c.deref_mut.result.now i.outputs.items c.args.self.now c.args.link c.feed_of-feed.result c.self.invariant c.self.view_is c.requires fed c.deref_mut.ensures.value
 
 -- where the link is kept
 kept : (c : In_ok-put_on) → Keeps c.put_on.new.stack.items c.put_on.new.drivers c.put_on.new.next c.put_on.new.feeds c.self.inside.outputs.items (with_link c.args.self.now c.args.link)
 kept c =
     let i = c.self.inside in
-    let fed = sym (ap (λ (fs : List (Option ℕ)). get_or fs c.args.link.source None) c.deref.ensures.value) ∙ c.feed_of-feed.ensures in
+    let fed = sym (ap (λ (fs : List (Option ℕ)). get_or fs c.args.link.source None) c.deref.ensures.value) ∙ (sym (ap (λ (l : Link). get_or c.deref.result.now l.source None) c.link.view_is) ∙ c.feed_of-feed.ensures) in
     keeps_more i.added.items c.put_on.new.stack.items i.drivers i.next c.put_on.new.drivers c.put_on.new.next i.feeds.items c.deref_mut.result.now c.put_on.new.feeds i.outputs.items c.args.self.now c.args.link c.feed_of-feed.result
     c.self.invariant c.self.view_is c.requires fed c.deref_mut.ensures.value c.in_ok-put_on.ensures.drivers c.in_ok-put_on.ensures.next c.in_ok-put_on.ensures.grown
 
