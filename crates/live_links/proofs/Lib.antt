@@ -7,3 +7,4 @@ pub mod Growing
 pub mod Kept
 pub mod Opening
 pub mod Beginning
+pub mod Paths

@@ -30,3 +30,17 @@ pub record IsAddable (s : Stacked) (l : Link) : Type 0 where
   pub one_driver : (w : ℕ) → Below (present s) l.sink w → w ≢ l.sink → HasOneDriver (present s) w
   pub unfed : (w : ℕ) → Below (present s) l.sink w → Fed (present s) w → ⊥
   pub room : count_by (λ (a : Link). a.source == l.source) s.links < get_or s.more l.source 0
+
+-- the links of a path may be added one after the other
+abbrev pub AreAddable : Stacked → List Link → Type 0
+AreAddable s [] = Unit {0}
+AreAddable s (l ∷ ls) = IsAddable s l × AreAddable (with_link s l) ls
+
+-- with all links of a path, added one after the other
+abbrev pub with_path : Stacked → List Link → Stacked
+with_path s [] = s
+with_path s (l ∷ ls) = with_path (with_link s l) ls
+
+-- without the last links, so many; with all of a path and then without as many, all is as before
+abbrev pub without_links : ℕ → Stacked → Stacked
+without_links n s = record { base = s.base; links = drop n s.links; more = s.more }

@@ -5,6 +5,7 @@ mod added;
 mod feeds;
 mod grow;
 mod opened;
+mod path;
 mod stack;
 
 pub use added::AddedLink;
