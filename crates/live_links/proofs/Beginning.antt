@@ -1,16 +1,15 @@
 -- What is kept before any link is added.
-use Rattle.std.proofs.Common.{◌≡◌, ℕ, ◌+◌, ◌<◌, List, [], ◌∷◌, Option, length, get_or, refl, sym, ap, ap₂, subst, ◌∙◌, arith}
+use Rattle.std.proofs.Common.{◌≡◌, ℕ, ◌<◌, List, [], Option, length, get_or, sym, ap, ap₂, subst, ◌∙◌, arith}
 use Rattle.std.specs.Prelude.{replicate, reverse}
 use Rattle.std.proofs.lemmas.List.{get_or-replicate, length-replicate}
-use Rattle.links.specs.Links.{Link, Routing}
+use Rattle.links.specs.Links.{Link}
 use Rattle.fabric.specs.InOrder.{InOrderOnce}
 use Rattle.link_order.specs.Order.{link_cmp}
 use Rattle.open_rows.specs.Rows.{Rows}
 use Rattle.wire_links.specs.Rows.{AreJoined, links_of_rows}
 use Rattle.wire_links.proofs.Routed.{next_within, rows_drive}
 use Rattle.live_links.specs.declared.added.AddedLink.{AddedLink}
-use Rattle.live_links.specs.Joined.{IsJoined, IsLinkStack, base_of, more_of, stacked}
-use Rattle.live_links.specs.Live.{Stacked}
+use Rattle.live_links.specs.Joined.{IsJoined, IsLinkStack, more_of, stacked}
 use Rattle.live_links.specs.Opened.{rooms_of}
 use Rattle.live_links.proofs.Opening.{more_given, rising_once, room_at}
 

@@ -1,14 +1,14 @@
 -- A link is put into rows, and taken back.
-use Rattle.std.proofs.Common.{◌≡◌, ℕ, ◌+◌, ◌<◌, List, [], ◌∷◌, ◌++◌, Option, Some, None, length, get_or, set, Result, Ok, Err, refl, sym, ap, ap₂, subst, ◌∙◌, arith}
+use Rattle.std.proofs.Common.{◌≡◌, ℕ, ◌<◌, List, [], ◌∷◌, ◌++◌, Option, Some, None, length, get_or, set, Result, Ok, Err, refl, sym, ap, ap₂, subst, ◌∙◌, arith}
 use Rattle.std.specs.Prelude.{OnErr}
 use Rattle.std.proofs.lemmas.List.{length-set, length_push}
 use Rattle.links.specs.Links.{Link}
-use Rattle.open_rows.specs.Rows.{Rows, popped, pushed}
+use Rattle.open_rows.specs.Rows.{Rows, pushed}
 use Rattle.wire_feeds.specs.Rows.{AreRowsWithin}
 use Rattle.wire_feeds.specs.Walks.{Walk}
 use Rattle.live_links.specs.declared.added.AddedLink.{AddedLink}
 use Rattle.live_links.specs.Feeding.{cleared, waiting}
-use Rattle.live_links.specs.Joined.{CanGrow, HasGrown, grown_rows, shrunk_rows}
+use Rattle.live_links.specs.Joined.{HasGrown, grown_rows, shrunk_rows}
 use Rattle.live_links.proofs.Clearing.{cleared_one}
 use Rattle.live_links.proofs.Pushing.{popped_pushed, pushed_row}
 

@@ -3,9 +3,8 @@ use Rattle.std.proofs.Common.{◌≡◌, ◌≢◌, ℕ, ◌<◌, ◌⊎◌, Lis
 use Rattle.std.specs.Ordering.{nat_cmp}
 use Rattle.std.proofs.lemmas.Bool.{cases_eq}
 use Rattle.std.proofs.lemmas.List.{get_or-set_same, length-set}
-use Rattle.words.specs.Members.{In}
 use Rattle.words.specs.Twice.{HasNoneTwice}
-use Rattle.links.specs.Links.{Link, Routing, Below, Counting, Drives, Fed, Feeds, IsClean, Reaches, here, onto}
+use Rattle.links.specs.Links.{Link, Routing, Below, Drives, Fed, Feeds, IsClean, here, onto}
 use Rattle.links.proofs.Below.{is_below}
 use Rattle.links.proofs.Feeds.{feeds_on}
 use Rattle.links.proofs.Walks.{reaches_by}
@@ -14,13 +13,13 @@ use Rattle.repair.specs.Usable.{HasOneDriver}
 use Rattle.open_rows.specs.Rows.{pushed}
 use Rattle.wire_feeds.specs.declared.noted.FedWire.{FedWire}
 use Rattle.wire_feeds.specs.Rows.{AreFeeds, AreRowsWithin, HasNext, Leads}
-use Rattle.wire_feeds.specs.Walks.{IsFed, IsReached, Waits, Walk}
+use Rattle.wire_feeds.specs.Walks.{IsFed, IsReached, Walk}
 use Rattle.wire_feeds.proofs.Ended.{walk_feeds}
 use Rattle.wire_feeds.proofs.Noting.{fed_now, feed_from, keeps_feed}
 use Rattle.wire_feeds.proofs.Spreading.{fed_below}
 use Rattle.wire_contests.specs.Contests.{HasDrivers}
 use Rattle.live_links.specs.Joined.{IsJoined}
-use Rattle.live_links.proofs.Pushing.{none_in, once_push, pushed_from, pushed_has, pushed_keeps, pushed_other, pushed_row, row_below}
+use Rattle.live_links.proofs.Pushing.{none_in, once_push, pushed_from, pushed_has, pushed_keeps, pushed_other, pushed_row}
 
 -- the routing with one link more
 abbrev pub grown : Routing → ℕ → ℕ → Routing

@@ -1,5 +1,5 @@
 -- What is kept in vectors, once a link is added or taken back.
-use Rattle.std.proofs.Common.{◌≡◌, ℕ, ◌+◌, ◌<◌, ◌≤◌, List, [], ◌∷◌, ◌++◌, Option, Some, None, length, get_or, take, drop, refl, sym, ap, ap₂, subst, ◌∙◌, arith}
+use Rattle.std.proofs.Common.{◌≡◌, ℕ, ◌<◌, ◌≤◌, List, [], ◌∷◌, ◌++◌, Option, Some, None, length, get_or, take, drop, refl, sym, ap, subst, ◌∙◌}
 use Rattle.std.specs.Prelude.{reverse, IsSome, MatchOption}
 use Rattle.std.specs.Option.{option_to_list}
 use Rattle.std.proofs.lemmas.List.{append-nil, drop_all, length-map, length-reverse, reverse-append, take_all}
@@ -68,9 +68,9 @@ keeps_more items items_now drivers next drivers_now next_now feeds lent feeds_no
       is = value_grown (reverse items) drivers next feeds outputs keeps l here feed fed feeds_now a grew ∙ ap (λ (s : Stacked). with_link s l) is;
     } in
     let all : Keeping (reverse items_now) drivers_now next_now feeds_now outputs (with_link value l) =
-        subst (λ (xs : List AddedLink). Keeping xs drivers_now next_now feeds_now outputs (with_link value l)) (sym stack_is)
-        (subst (λ (r : Rows ℕ). Keeping (a ∷ reverse items) r next_now feeds_now outputs (with_link value l)) (sym drivers_is)
-        (subst (λ (r : Rows ℕ). Keeping (a ∷ reverse items) (grown_rows drivers l.sink l.source) r feeds_now outputs (with_link value l)) (sym next_is) first)) in
+    subst (λ (xs : List AddedLink). Keeping xs drivers_now next_now feeds_now outputs (with_link value l)) (sym stack_is)
+    (subst (λ (r : Rows ℕ). Keeping (a ∷ reverse items) r next_now feeds_now outputs (with_link value l)) (sym drivers_is)
+    (subst (λ (r : Rows ℕ). Keeping (a ∷ reverse items) (grown_rows drivers l.sink l.source) r feeds_now outputs (with_link value l)) (sym next_is) first)) in
     record { stack = all.stack; is = all.is }
 
 -- the rows of the last link hold it
@@ -78,7 +78,7 @@ pub last_filled : (items items_now : List AddedLink) (a : AddedLink) (drivers ne
     → IsLinkStack (reverse items) drivers next feeds outputs → (0 < length (get_or drivers.rows a.link.sink [])) × (0 < length (get_or next.rows a.link.source []))
 last_filled items items_now a drivers next feeds outputs items_is keeps =
     let top : IsLinkStack (a ∷ reverse items_now) drivers next feeds outputs =
-        subst (λ (xs : List AddedLink). IsLinkStack xs drivers next feeds outputs) (ap (λ (xs : List AddedLink). reverse xs) items_is ∙ last_first items_now a) keeps in
+    subst (λ (xs : List AddedLink). IsLinkStack xs drivers next feeds outputs) (ap (λ (xs : List AddedLink). reverse xs) items_is ∙ last_first items_now a) keeps in
     (drivers_filled a (reverse items_now) drivers next feeds outputs top, next_filled a (reverse items_now) drivers next feeds outputs top)
 
 pub keeps_less : (items items_now : List AddedLink) (a : AddedLink) (drivers next drivers_now next_now : Rows ℕ) (feeds lent feeds_now : List (Option ℕ)) (outputs : List ℕ) (value : Stacked)
@@ -94,9 +94,9 @@ keeps_less items items_now a drivers next drivers_now next_now feeds lent feeds_
       is = ap (λ (s : Stacked). without_last s) seen;
     } in
     let all : Keeping (reverse items_now) drivers_now next_now feeds_now outputs (without_last value) =
-        subst (λ (r : Rows ℕ). Keeping (reverse items_now) r next_now feeds_now outputs (without_last value)) (sym drivers_is)
-        (subst (λ (r : Rows ℕ). Keeping (reverse items_now) (shrunk_rows drivers a.link.sink) r feeds_now outputs (without_last value)) (sym next_is)
-        (subst (λ (fs : List (Option ℕ)). Keeping (reverse items_now) (shrunk_rows drivers a.link.sink) (shrunk_rows next a.link.source) fs outputs (without_last value)) (sym (feeds_is ∙ ap (cleared a.fed.items) same)) first)) in
+    subst (λ (r : Rows ℕ). Keeping (reverse items_now) r next_now feeds_now outputs (without_last value)) (sym drivers_is)
+    (subst (λ (r : Rows ℕ). Keeping (reverse items_now) (shrunk_rows drivers a.link.sink) r feeds_now outputs (without_last value)) (sym next_is)
+    (subst (λ (fs : List (Option ℕ)). Keeping (reverse items_now) (shrunk_rows drivers a.link.sink) (shrunk_rows next a.link.source) fs outputs (without_last value)) (sym (feeds_is ∙ ap (cleared a.fed.items) same)) first)) in
     record { stack = all.stack; is = all.is }
 
 -- where nothing changed, the same is kept

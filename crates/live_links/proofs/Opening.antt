@@ -1,11 +1,10 @@
 -- Rows are opened.
-use Rattle.std.proofs.Common.{◌≡◌, ◌≢◌, ℕ, zero, suc, ◌+◌, ◌-◌, ◌<◌, ◌≤◌, List, [], ◌∷◌, ◌++◌, map, length, get_or, set, take, drop, refl, sym, ap, ap₂, subst, ◌∙◌, inl, inr, arith}
+use Rattle.std.proofs.Common.{◌≡◌, ℕ, zero, suc, ◌+◌, ◌-◌, ◌<◌, ◌≤◌, List, [], ◌∷◌, ◌++◌, map, length, get_or, set, take, drop, refl, sym, ap, ap₂, ◌∙◌, inl, inr, arith}
 use Rattle.std.specs.Ordering.{nat_cmp}
-use Rattle.std.proofs.lemmas.Bool.{cases_eq, cases_lt}
-use Rattle.std.proofs.lemmas.List.{append-nil, append_assoc, drop_more, drop_all, ext_get_or, get_or-set_same, get_or-set_other, get_or_past, length-set, length-append, set-get_or, set-set, take_all, take_more, length-take-le}
+use Rattle.std.proofs.lemmas.Bool.{cases_eq}
+use Rattle.std.proofs.lemmas.List.{append-nil, append_assoc, drop_more, drop_all, ext_get_or, get_or-set_same, get_or-set_other, length-set, length-append, set-get_or, set-set, take_all, take_more, length-take-le}
 use Rattle.std.specs.Prelude.{slice_get, Some}
 use Rattle.std.proofs.lemmas.Option.{get_or_from_slice_get}
-use Rattle.words.specs.Members.{In}
 use Rattle.open_rows.specs.Rows.{HasRoom, Rows, pushed}
 use Rattle.words.specs.Twice.{HasNoneTwice}
 use Rattle.fabric.specs.InOrder.{IsRising}
@@ -104,7 +103,7 @@ row_more old now new w i x row are known below is rows_is room_is =
     let r : List ℕ = get_or old.rows w [] in
     let item : take i row ++ x ∷ [] ≡ take (i + 1) row = ap (λ z. take i row ++ z ∷ []) is ∙ sym (take_more row i x below) in
     let end : get_or now.rows w [] ++ x ∷ [] ≡ r ++ take (i + 1) row =
-        ap (λ (z : List ℕ). z ++ x ∷ []) (row_now old now w i row are known) ∙ (append_assoc r (take i row) (x ∷ []) ∙ ap (λ (z : List ℕ). r ++ z) item) in
+    ap (λ (z : List ℕ). z ++ x ∷ []) (row_now old now w i row are known) ∙ (append_assoc r (take i row) (x ∷ []) ∙ ap (λ (z : List ℕ). r ++ z) item) in
     record {
       rows = rows_is ∙ (ap (λ (z : List ℕ). set now.rows w z) end ∙ (ap (λ (z : List (List ℕ)). set z w (r ++ take (i + 1) row)) are.rows ∙ set-set old.rows w (r ++ take i row) (r ++ take (i + 1) row)));
       room = room_is ∙ are.room;

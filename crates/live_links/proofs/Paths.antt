@@ -1,8 +1,8 @@
 -- Links of a path that are added one after the other.
-use Rattle.std.proofs.Common.{◌≡◌, ℕ, zero, suc, ◌+◌, ◌<◌, ◌≤◌, List, [], ◌∷◌, ◌++◌, length, get_or, take, drop, refl, sym, ap, subst, ◌∙◌, arith}
-use Rattle.std.proofs.lemmas.List.{drop-drop, drop_more, get_or_read, take_more, take_all}
+use Rattle.std.proofs.Common.{◌≡◌, ℕ, suc, ◌+◌, ◌<◌, List, [], ◌∷◌, ◌++◌, length, get_or, take, drop, refl, sym, ap, subst, ◌∙◌, arith}
+use Rattle.std.proofs.lemmas.List.{drop-drop, drop_more, take_more}
 use Rattle.links.specs.Links.{Link}
-use Rattle.live_links.specs.Live.{AreAddable, IsAddable, Stacked, with_link, with_path, without_last, without_links}
+use Rattle.live_links.specs.Live.{AreAddable, Stacked, with_link, with_path, without_last, without_links}
 
 pub with_path_push : (s : Stacked) (path : List Link) (l : Link) → with_path s (path ++ l ∷ []) ≡ with_link (with_path s path) l
 with_path_push s [] l = refl

@@ -1,18 +1,18 @@
 -- What is kept of links that were added, once one is added or taken back.
-use Rattle.std.proofs.Common.{◌≡◌, ◌≢◌, ℕ, zero, suc, ◌+◌, ◌-◌, ◌<◌, ◌≤◌, Bool, cond, List, [], ◌∷◌, ◌++◌, Option, Some, None, map, length, get_or, set, take, refl, sym, ap, ap₂, subst, ◌∙◌, inl, inr, arith}
+use Rattle.std.proofs.Common.{◌≡◌, ◌≢◌, ℕ, zero, suc, ◌+◌, ◌-◌, ◌<◌, ◌≤◌, Bool, cond, List, [], ◌∷◌, ◌++◌, Option, Some, None, length, get_or, take, refl, sym, ap, subst, ◌∙◌, inl, inr, arith}
 use Rattle.std.specs.Prelude.{◌==◌}
 use Rattle.std.specs.List.{count_by}
 use Rattle.std.proofs.lemmas.Bool.{cases_eq, eq-eqb, ne_eqb}
 use Rattle.std.proofs.lemmas.List.{length-set, length_push, get_or-set_same, get_or-set_other, length-take-le}
 use Rattle.std.proofs.lemmas.List.Sums.{sum_by-cons}
 use Rattle.words.specs.Members.{In}
-use Rattle.links.specs.Links.{Link, Routing, Drives}
-use Rattle.open_rows.specs.Rows.{HasRoom, Rows, popped, pushed}
+use Rattle.links.specs.Links.{Link, Routing}
+use Rattle.open_rows.specs.Rows.{Rows, popped, pushed}
 use Rattle.wire_links.specs.Rows.{routing_of_rows}
 use Rattle.live_links.specs.declared.added.AddedLink.{AddedLink}
 use Rattle.live_links.specs.Feeding.{cleared}
 use Rattle.live_links.specs.Joined.{AreCounted, CanGrow, HasGrown, IsJoined, IsLinkStack, IsStacked, added_to, base_drivers, base_next, base_of, grown_rows, links_of, more_of, shrunk_rows, stacked}
-use Rattle.live_links.specs.Live.{IsAddable, Stacked, present, with_link}
+use Rattle.live_links.specs.Live.{IsAddable, with_link}
 use Rattle.live_links.proofs.Joining.{Takes, grows, sink_unfed, source_below, walk_begins, within_grown}
 use Rattle.live_links.proofs.Pushing.{filled_by, popped_pushed, pushed_other, pushed_row, row_below}
 

@@ -1,5 +1,5 @@
 -- Feeds that are given to wires, and cleared again. (Our own.)
-use Rattle.std.specs.Prelude.{◌≡◌, ℕ, List, [], ◌∷◌, ◌++◌, map, drop, slice_set, Option, Some, None}
+use Rattle.std.specs.Prelude.{ℕ, List, [], ◌∷◌, ◌++◌, slice_set, Option, Some, None}
 use Rattle.wire_feeds.specs.declared.noted.FedWire.{FedWire}
 
 -- the feeds once these wires have none

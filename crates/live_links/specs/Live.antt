@@ -1,5 +1,5 @@
 -- Links that are added to a clean routing one after the other, and taken back in reverse. (Our own.)
-use Rattle.std.specs.Prelude.{◌≡◌, ◌≢◌, ℕ, ◌<◌, ◌==◌, List, [], ◌∷◌, ◌++◌, length, get_or, drop}
+use Rattle.std.specs.Prelude.{◌≢◌, ℕ, ◌<◌, ◌==◌, List, [], ◌∷◌, ◌++◌, length, get_or, drop}
 use Rattle.std.specs.List.{count_by}
 use Rattle.links.specs.Links.{Link, Routing, Below, Drives, Fed}
 use Rattle.repair.specs.Usable.{HasOneDriver}

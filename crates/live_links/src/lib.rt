@@ -10,3 +10,6 @@ mod stack;
 
 pub use added::AddedLink;
 pub use stack::LinkStack;
+
+#[cfg(test)]
+mod tests;

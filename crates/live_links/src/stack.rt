@@ -38,7 +38,7 @@ pub struct LinkStack {
 impl Model for LinkStack {
     ghost use Rattle.std.specs.Prelude.{reverse};
     ghost use Rattle.wire_links.specs.Refused.{Refuses, as_routing};
-ghost use Rattle.live_links.specs.Live.{Stacked};
+    ghost use Rattle.live_links.specs.Live.{Stacked};
     ghost use Rattle.live_links.specs.Joined.{IsLinkStack, stacked};
 
     ghost Value = { Stacked };
@@ -112,12 +112,7 @@ impl LinkStack {
         ensures clean { IsClean (present self.new) }
     {
         let added = self.added.pop().unwrap();
-        take_back(
-            &mut self.drivers,
-            &mut self.next,
-            &mut self.feeds,
-            added,
-        );
+        take_back(&mut self.drivers, &mut self.next, &mut self.feeds, added);
     }
 
     /// The drivers of a wire, with or without a feed, in order.

@@ -1,4 +1,4 @@
-use Rattle.std.proofs.Common.{◌≡◌, ◌∙◌, sym}
+use Rattle.std.proofs.Common.{◌∙◌, sym}
 use Rattle.live_links.proofs.Kept.{some_is}
 use Rattle.live_links.proofs.feeds.feed_of.Goals as goal
 

@@ -1,4 +1,4 @@
-use Rattle.std.proofs.Common.{◌≡◌, ◌+◌, ◌-◌, ◌≤◌, ℕ, List, [], length, drop}
+use Rattle.std.proofs.Common.{◌≡◌, ◌+◌, ◌-◌, ◌≤◌, ℕ, List, length, drop}
 use Rattle.wire_feeds.specs.Walks.{Walk, open_count}
 use Rattle.live_links.specs.Feeding.{cleared, waiting}
 use Rattle.live_links.proofs.feeds.spread.Given as goal

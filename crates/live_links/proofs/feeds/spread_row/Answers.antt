@@ -1,10 +1,10 @@
-use Rattle.std.proofs.Common.{ℕ, ◌≡◌, ◌+◌, ◌<◌, ◌≤◌, List, Option, None, length, drop, get_or, refl, sym, subst, ◌∙◌, ap, ap₂, arith}
+use Rattle.std.proofs.Common.{ℕ, ◌+◌, ◌<◌, List, Option, None, length, drop, get_or, refl, sym, subst, ◌∙◌, ap, ap₂, arith}
 use Rattle.net_links.proofs.Listed.{met}
 use Rattle.wire_feeds.specs.declared.noted.FedWire.{FedWire}
 use Rattle.wire_feeds.specs.Walks.{feeds_with, open_count}
 use Rattle.wire_feeds.proofs.Noting.{same_length}
 use Rattle.wire_feeds.proofs.Spreading.{SpreadTo, spread_more, spread_whole}
-use Rattle.live_links.specs.Feeding.{cleared, fed_with, waiting}
+use Rattle.live_links.specs.Feeding.{cleared, waiting}
 use Rattle.live_links.proofs.Clearing.{cleared_noted, no_fewer}
 use Rattle.live_links.proofs.Feeding.{counted_noted, waits_more}
 use Rattle.live_links.proofs.feeds.spread_row.Goals as goal

@@ -1,4 +1,4 @@
-use Rattle.std.proofs.Common.{◌≡◌, ℕ, List, [], ◌∷◌, ◌++◌, length, ◌∙◌, ap, ap₂, sym, refl, arith}
+use Rattle.std.proofs.Common.{◌≡◌, ℕ, List, [], ◌∷◌, ◌++◌, length, ◌∙◌, ap, ap₂, refl, arith}
 use Rattle.links.specs.Links.{Link}
 use Rattle.live_links.proofs.Growing.{cleared_first, grown_by, put_long, put_within, shrunk_grown}
 use Rattle.live_links.proofs.grow.grow.Goals as goal

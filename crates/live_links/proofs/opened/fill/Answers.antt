@@ -1,4 +1,4 @@
-use Rattle.std.proofs.Common.{◌≤◌, length, arith}
+use Rattle.std.proofs.Common.{arith}
 use Rattle.live_links.proofs.Opening.{filled_all}
 use Rattle.live_links.proofs.opened.fill.Goals as goal
 

@@ -1,4 +1,4 @@
-use Rattle.std.proofs.Common.{◌≤◌, length, arith}
+use Rattle.std.proofs.Common.{arith}
 use Rattle.live_links.proofs.Opening.{row_begun, row_has_room, row_more, row_whole}
 use Rattle.live_links.proofs.opened.fill_row.Goals as goal
 

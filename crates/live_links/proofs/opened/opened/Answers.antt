@@ -1,4 +1,4 @@
-use Rattle.std.proofs.Common.{◌≡◌, ℕ, ◌+◌, ◌≤◌, List, [], length, get_or, ap, ◌∙◌, arith}
+use Rattle.std.proofs.Common.{ℕ, List, [], length, get_or, ap, ◌∙◌, arith}
 use Rattle.std.proofs.lemmas.List.{length-map}
 use Rattle.live_links.proofs.Opening.{length-rooms_of, none_at, room_at}
 use Rattle.live_links.proofs.opened.opened.Goals as goal

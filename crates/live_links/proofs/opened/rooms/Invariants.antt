@@ -1,4 +1,4 @@
-use Rattle.std.proofs.Common.{◌≡◌, ◌+◌, ◌<◌, ◌^◌, ◌++◌, drop}
+use Rattle.std.proofs.Common.{◌≡◌, ◌<◌, ◌^◌, ◌++◌, drop}
 use Rattle.std.specs.Prelude.{sum}
 use Rattle.live_links.specs.Opened.{rooms_of}
 use Rattle.live_links.proofs.opened.rooms.Given as goal

@@ -1,8 +1,8 @@
-use Rattle.std.proofs.Common.{◌≡◌, ℕ, ◌<◌, List, Option, Some, None, length, get_or, refl, sym, ap, subst, ◌∙◌, arith}
+use Rattle.std.proofs.Common.{◌≡◌, ℕ, List, Option, None, get_or, sym, ap, subst, ◌∙◌, arith}
 use Rattle.std.specs.Prelude.{reverse}
 use Rattle.links.specs.Links.{IsClean, Link}
 use Rattle.wire_feeds.specs.Walks.{IsFed}
-use Rattle.live_links.specs.Joined.{IsLinkStack, stacked}
+use Rattle.live_links.specs.Joined.{stacked}
 use Rattle.live_links.specs.Live.{Stacked, present, with_link}
 use Rattle.live_links.proofs.Growing.{on_err}
 use Rattle.live_links.proofs.Kept.{Keeps, joined_value, keeps_more, keeps_same, may_grow, source_fed, whole}

@@ -1,7 +1,6 @@
-use Rattle.std.proofs.Common.{◌≡◌, ℕ, ◌<◌, List, Option, Some, None, length, get_or, refl, sym, ap, subst, ◌∙◌, arith}
+use Rattle.std.proofs.Common.{sym, subst, arith}
 use Rattle.std.specs.Prelude.{reverse}
 use Rattle.links.specs.Links.{IsClean}
-use Rattle.live_links.specs.Joined.{IsLinkStack, stacked}
 use Rattle.live_links.specs.Live.{Stacked, present, without_last}
 use Rattle.live_links.proofs.Kept.{Keeps, joined_value, keeps_less, last_filled, links_long, popped_last, whole}
 use Rattle.live_links.proofs.stack.LinkStack.drop_last.Goals as goal

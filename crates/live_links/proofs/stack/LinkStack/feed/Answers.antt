@@ -1,4 +1,4 @@
-use Rattle.std.proofs.Common.{◌≡◌, ℕ, List, Option, Some, None, ◌∙◌, ap, get_or, sym, subst}
+use Rattle.std.proofs.Common.{ℕ, List, Option, None, ◌∙◌, ap, get_or, sym}
 use Rattle.std.specs.Prelude.{reverse}
 use Rattle.live_links.proofs.Kept.{feed_tells, joined_value}
 use Rattle.live_links.specs.Live.{present}

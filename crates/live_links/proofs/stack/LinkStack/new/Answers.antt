@@ -1,4 +1,4 @@
-use Rattle.std.proofs.Common.{◌≡◌, ℕ, List, length, ◌∙◌, ap, sym, subst}
+use Rattle.std.proofs.Common.{ℕ, ◌∙◌, ap, sym}
 use Rattle.std.specs.Prelude.{replicate}
 use Rattle.live_links.proofs.Beginning.{Begins, keeps_first, more_first}
 use Rattle.live_links.proofs.stack.LinkStack.new.Goals as goal
