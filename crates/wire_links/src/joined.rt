@@ -11,15 +11,14 @@ ghost use Rattle.wire_links.specs.Refused.{Refuses, as_routing};
 
 use crate::LinksError;
 use crate::drivers::first_fed;
+use crate::parts::JoinedRows;
 use crate::reached::below_along;
-use crate::rows::{LinkRows, row_of};
+use crate::rows::row_of;
 use grouped::Grouped;
-use link_order::{Link, in_order};
+use link_order::Link;
 use rr_ids::{Id, WireId};
 use std::alloc::{AllocError, Global};
 use std::marker::Model;
-use wire_contests::first_contest;
-use wire_feeds::feeds_along;
 
 /// Links that are joined to a clean routing. Contracts see the links, in order by sink, then by source, each once, and the
 /// cell outputs.
@@ -60,17 +59,12 @@ impl WireLinks {
         ensures outputs { IfOk result (λ r. r.outputs ≡ outputs.now) }
         ensures answer { MatchResult result (λ _. IsClean (as_routing links.now outputs.now)) (Refuses (as_routing links.now outputs.now)) }
     {
-        let ordered = in_order(alloc, wires, links)?;
-        let rows = LinkRows::new(alloc, wires, &ordered)?;
-        let feeds = feeds_along(alloc, &rows.next, outputs)?;
-        if let Some(contest) = first_contest(&rows.drivers, &feeds) {
-            return Err(LinksError::Contested(contest));
-        }
+        let rows = JoinedRows::new(alloc, wires, links, outputs)?;
         let outputs = Vec::from_slice(alloc, outputs)?;
         Ok(WireLinks {
             drivers: rows.drivers,
             next: rows.next,
-            feeds,
+            feeds: rows.feeds,
             outputs,
         })
     }

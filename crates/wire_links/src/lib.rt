@@ -4,11 +4,13 @@
 mod drivers;
 mod error;
 mod joined;
+mod parts;
 mod reached;
 mod rows;
 
 pub use error::LinksError;
 pub use joined::WireLinks;
+pub use parts::JoinedRows;
 
 #[cfg(test)]
 mod tests;

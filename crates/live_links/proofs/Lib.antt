@@ -1,0 +1,10 @@
+pub mod Pushing
+pub mod Joining
+pub mod Clearing
+pub mod Feeding
+pub mod Stacking
+pub mod Growing
+pub mod Kept
+pub mod Opening
+pub mod Beginning
+pub mod Paths

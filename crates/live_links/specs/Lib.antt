@@ -1,0 +1,4 @@
+pub mod Live
+pub mod Joined
+pub mod Feeding
+pub mod Opened
