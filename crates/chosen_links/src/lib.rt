@@ -3,8 +3,8 @@
 
 mod chosen;
 mod fitting;
-mod links;
+mod linking;
 mod most;
 
 pub use chosen::chosen_arcs;
-pub use links::chosen_links;
+pub use linking::all_links;

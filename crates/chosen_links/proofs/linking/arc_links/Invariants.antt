@@ -1,7 +1,7 @@
 use Rattle.std.proofs.Common.{◌≡◌, Bool, filter, map, take}
 use Rattle.fabric.specs.Graph.{GraphArc}
 use Rattle.fabric.specs.Links.{link_of}
-use Rattle.chosen_links.proofs.links.arc_links.Given as goal
+use Rattle.chosen_links.proofs.linking.arc_links.Given as goal
 
 -- the links of the arcs so far
 abbrev pub invariant-loop-a : goal.invariant-loop-a

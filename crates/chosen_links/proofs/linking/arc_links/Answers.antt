@@ -1,7 +1,7 @@
 use Rattle.std.proofs.Common.{◌<◌, false, get_or, length, arith}
 use Rattle.fabric.specs.Links.{link_of}
 use Rattle.chosen_links.proofs.Gathering.{image_at, kept_more}
-use Rattle.chosen_links.proofs.links.arc_links.Goals as goal
+use Rattle.chosen_links.proofs.linking.arc_links.Goals as goal
 
 pub loop-a-preserved : goal.loop-a-preserved
 loop-a-preserved g c = λ test h.

@@ -50,7 +50,7 @@ fn arc_links<G: RoutingGraph>(
 
 /// The links of the arcs that are chosen, in arc order, and behind them the fixed connections and joins. `chosen` says of each arc
 /// whether it is, as `chosen_arcs` does. Takes time in proportion to the arcs and the fixed connections.
-pub fn chosen_links<G: RoutingGraph>(
+pub fn all_links<G: RoutingGraph>(
     alloc: Global,
     graph: &G,
     chosen: &[bool],
