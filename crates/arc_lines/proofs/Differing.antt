@@ -136,14 +136,16 @@ module _ (device : Device) (g : Graph) (is : IsGraph device g) (image : Bits) (c
   -- a name at which an arc differs is that of the mux of one that is looked at
   named : (y : MuxName) → Differs g image config y → (m : ℕ) × ((name_at g m ≡ y) × DiffersBelow g chosen lined (length g.arcs) m)
   named y d =
-      let n = number_there g.arcs d.arc d.listed in
-      (d.arc.mux, (
-        name_is d.arc.mux d.mux d.of_mux ∙ (tile_is d.mux d.tile d.in_tile ∙ sym d.named),
-        elim d.differs [
-          | inl c ↦ there n.0 d.arc n.1 true false true c.0 (no_line n.0 n.1 c.1.1) c.1.0 refl
-          | inr l ↦ there n.0 d.arc n.1 false true (has_plain_bit d.arc.arc.bits) l.1 ((marks n.0 d.arc n.1).1 l.0) refl refl
-        ],
-      ))
+      let n = number_there g.arcs d.arc d.listed in (
+        d.arc.mux,
+        (
+          name_is d.arc.mux d.mux d.of_mux ∙ (tile_is d.mux d.tile d.in_tile ∙ sym d.named),
+          elim d.differs [
+            | inl c ↦ there n.0 d.arc n.1 true false true c.0 (no_line n.0 n.1 c.1.1) c.1.0 refl
+            | inr l ↦ there n.0 d.arc n.1 false true (has_plain_bit d.arc.arc.bits) l.1 ((marks n.0 d.arc n.1).1 l.0) refl refl
+          ],
+        ),
+      )
     where
       no_line : (a : ℕ) → slice_get g.arcs a ≡ Some d.arc → (HasLine g config d.arc → ⊥) → get_or lined a false ≡ false
       no_line a at n = go (get_or lined a false) refl

@@ -32,21 +32,30 @@ module _ (g : Graph) (Has More : ℕ → Type 0) (m : ℕ) (b : Bool) (kept : (k
   same e (Some least) h = (kept least h.0, λ k more. elim (split k more) [ inl has ↦ h.1 k has | inr new ↦ absurd (false≢true (sym e ∙ new.0)) ])
 
   lower : (here : More m) (o : Option ℕ) → IsLeastMux g Has o → IsLeastMux g More (Some (lower_mux g o m))
-  lower here None h = (here, λ k more. elim (split k more) [
-    | inl has ↦ absurd (h k has)
-    | inr new ↦ subst (λ n. is_gt (mux_name_cmp (name_at g m) (name_at g n)) ≡ false) (sym new.1) (itself (name_at g m))
-  ])
+  lower here None h = (
+    here,
+    λ k more. elim (split k more) [
+      | inl has ↦ absurd (h k has)
+      | inr new ↦ subst (λ n. is_gt (mux_name_cmp (name_at g m) (name_at g n)) ≡ false) (sym new.1) (itself (name_at g m))
+    ],
+  )
   lower here (Some least) h = go (is_gt (mux_name_cmp (name_at g least) (name_at g m))) refl
     where
       go : (c : Bool) → is_gt (mux_name_cmp (name_at g least) (name_at g m)) ≡ c → IsLeastMux g More (Some (cond c m least))
-      go true e = (here, λ k more. elim (split k more) [
-        | inl has ↦ upto mux_total (name_at g m) (name_at g least) (name_at g k) (no_later (name_at g least) (name_at g m) e) (h.1 k has)
-        | inr new ↦ subst (λ n. is_gt (mux_name_cmp (name_at g m) (name_at g n)) ≡ false) (sym new.1) (itself (name_at g m))
-      ])
-      go false e = (kept least h.0, λ k more. elim (split k more) [
-        | inl has ↦ h.1 k has
-        | inr new ↦ subst (λ n. is_gt (mux_name_cmp (name_at g least) (name_at g n)) ≡ false) (sym new.1) e
-      ])
+      go true e = (
+        here,
+        λ k more. elim (split k more) [
+          | inl has ↦ upto mux_total (name_at g m) (name_at g least) (name_at g k) (no_later (name_at g least) (name_at g m) e) (h.1 k has)
+          | inr new ↦ subst (λ n. is_gt (mux_name_cmp (name_at g m) (name_at g n)) ≡ false) (sym new.1) (itself (name_at g m))
+        ],
+      )
+      go false e = (
+        kept least h.0,
+        λ k more. elim (split k more) [
+          | inl has ↦ h.1 k has
+          | inr new ↦ subst (λ n. is_gt (mux_name_cmp (name_at g least) (name_at g n)) ≡ false) (sym new.1) e
+        ],
+      )
 
   pub one_more : (b ≡ true → More m) → (old new : Option ℕ) → new ≡ cond b (Some (lower_mux g old m)) old → IsLeastMux g Has old → IsLeastMux g More new
   one_more here old new made h = subst (IsLeastMux g More) (sym made) (go b refl)

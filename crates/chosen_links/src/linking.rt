@@ -43,7 +43,11 @@ fn arc_links<G: RoutingGraph>(
 {
     let mut links = Vec::new(alloc);
     for a in 0..graph.arcs() {
-        add_if(&mut links, chosen[a as usize], link_at(graph, ArcId::from_u32(a)))?;
+        add_if(
+            &mut links,
+            chosen[a as usize],
+            link_at(graph, ArcId::from_u32(a)),
+        )?;
     }
     Ok(links)
 }
