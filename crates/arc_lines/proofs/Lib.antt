@@ -1,0 +1,4 @@
+pub mod Found
+pub mod Lined
+pub mod LeastMux
+pub mod Differing

@@ -1,0 +1,2 @@
+pub mod LineArcs
+pub mod Differing
