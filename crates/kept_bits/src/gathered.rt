@@ -37,7 +37,6 @@ fn put_arc(
 }
 
 // Puts the bits of arcs in.
-#[tactic(auto, using(record_laws::proofs::Order::put_both))]
 fn put_arcs(
     bits: &mut BTreeSet<PlaceBit>,
     rules: &LentRules<'_>,

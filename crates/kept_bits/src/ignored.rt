@@ -10,5 +10,9 @@ use wire_names::{LentRules, Slot};
 pub fn is_ignored(rules: &LentRules<'_>, name: &Name) -> bool
     ensures { result ≡ is_ignored_by rules.now name.now }
 {
-    matches!(rules.slot(name.bytes()), Slot::Ignored)
+    match rules.slot(name.bytes()) {
+        Slot::Ignored => true,
+        Slot::Local(_) => false,
+        Slot::Wide { base: _ } => false,
+    }
 }
