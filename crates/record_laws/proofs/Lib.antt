@@ -1,0 +1,10 @@
+pub mod ArcsFound
+pub mod Behind
+pub mod Firsts
+pub mod Kept
+pub mod MuxOf
+pub mod MuxesFound
+pub mod Order
+pub mod Pairs
+pub mod RecordsFound
+pub mod Rows
