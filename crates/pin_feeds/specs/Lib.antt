@@ -1,0 +1,3 @@
+pub mod PinFeeds
+pub mod Outputs
+pub mod Unnamed
