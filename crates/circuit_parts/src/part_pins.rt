@@ -12,6 +12,7 @@ use rr_ids::{Name, WireId};
 use std::alloc::AllocError;
 
 // Adds the pins of a table.
+#[tactic(auto, using(crate::proofs::Gathered::numbered_more, crate::proofs::Gathered::numbered_all))]
 fn add_table_pins<'a>(
     pins: &mut Vec<Pin<'a>>,
     cell: &'a Name,
@@ -64,8 +65,8 @@ fn add_register_pins<'a>(
     part: PartKind,
     register: &RegisterCell,
 ) -> Result<(), AllocError>
-    ensures { let of = record { cell = cell.now; part = part_of part } in
-        OnOk result (pins.new.items ≡ pins.old.items ++ (data_pins of register.now ++ input_pin of 3 register.now.clock)) }
+    ensures { OnOk result (pins.new.items ≡ pins.old.items ++ (data_pins (record { cell = cell.now; part = part_of part }) register.now
+        ++ input_pin (record { cell = cell.now; part = part_of part }) 3 register.now.clock)) }
 {
     add_input_pin(pins, cell, part, 0, register.input)?;
     add_input_pin(pins, cell, part, 1, register.enable)?;
@@ -74,6 +75,7 @@ fn add_register_pins<'a>(
 }
 
 // Adds the pins of a part with an output.
+#[tactic(auto, using(crate::proofs::Gathered::table_pins_few))]
 fn add_source<'a>(pins: &mut Vec<Pin<'a>>, source: &Source<'a>) -> Result<(), AllocError>
     requires { length (source_pins source.now) < 2 ^ 32 }
     ensures { OnOk result (pins.new.items ≡ pins.old.items ++ source_pins source.now) }
@@ -86,6 +88,7 @@ fn add_source<'a>(pins: &mut Vec<Pin<'a>>, source: &Source<'a>) -> Result<(), Al
 }
 
 /// Adds the pins of parts, and where those of each begin, with the place behind them last.
+#[tactic(auto, using(crate::proofs::Gathered::flat_more, crate::proofs::Gathered::flat_all, crate::proofs::Gathered::source_few, crate::proofs::Starts::starts_more, crate::proofs::Starts::starts_all, crate::proofs::Starts::pins_few))]
 pub(crate) fn add_sources<'a>(
     pins: &mut Vec<Pin<'a>>,
     starts: &mut Vec<u32>,
@@ -118,6 +121,7 @@ fn pin_of<'a>(pad: &'a PadCell) -> Pin<'a>
 }
 
 /// Adds the pins of output pads.
+#[tactic(auto, using(crate::proofs::Gathered::map_more, crate::proofs::Gathered::map_all))]
 pub(crate) fn add_pads<'a>(pins: &mut Vec<Pin<'a>>, pads: &[&'a PadCell]) -> Result<(), AllocError>
     ensures { OnOk result (pins.new.items ≡ pins.old.items ++ map (λ pad. pad_pin pad.now) pads.now) }
 {

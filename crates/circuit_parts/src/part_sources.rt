@@ -34,6 +34,7 @@ fn register_part<'a>(slice: &'a SliceCell, number: u32, register: &'a RegisterCe
 }
 
 // Adds the tables of a slice.
+#[tactic(auto, using(crate::proofs::Gathered::numbered_more, crate::proofs::Gathered::numbered_all))]
 fn add_tables<'a>(sources: &mut Vec<Source<'a>>, slice: &'a SliceCell) -> Result<(), AllocError>
     requires { length slice.now.tables < 2 ^ 32 }
     ensures { OnOk result (sources.new.items ≡ sources.old.items ++ numbered (table_source slice.now) 0 slice.now.tables) }
@@ -45,6 +46,7 @@ fn add_tables<'a>(sources: &mut Vec<Source<'a>>, slice: &'a SliceCell) -> Result
 }
 
 // Adds the registers of a slice.
+#[tactic(auto, using(crate::proofs::Gathered::numbered_more, crate::proofs::Gathered::numbered_all))]
 fn add_registers<'a>(sources: &mut Vec<Source<'a>>, slice: &'a SliceCell) -> Result<(), AllocError>
     requires { length slice.now.registers < 2 ^ 32 }
     ensures { OnOk result (sources.new.items ≡ sources.old.items ++ numbered (register_source slice.now) 0 slice.now.registers) }
@@ -56,6 +58,7 @@ fn add_registers<'a>(sources: &mut Vec<Source<'a>>, slice: &'a SliceCell) -> Res
 }
 
 // Adds the tables and registers of a slice.
+#[tactic(auto, using(crate::proofs::Gathered::tables_few, crate::proofs::Gathered::registers_few))]
 fn add_slice<'a>(sources: &mut Vec<Source<'a>>, slice: &'a SliceCell) -> Result<(), AllocError>
     requires { length (slice_sources slice.now) < 2 ^ 32 }
     ensures { OnOk result (sources.new.items ≡ sources.old.items ++ slice_sources slice.now) }
@@ -84,6 +87,7 @@ fn add_pad<'a>(sources: &mut Vec<Source<'a>>, pad: &'a PadCell) -> Result<(), Al
 }
 
 // Adds the parts of slices.
+#[tactic(auto, using(crate::proofs::Gathered::flat_more, crate::proofs::Gathered::flat_all, crate::proofs::Gathered::slice_few))]
 fn add_slices<'a>(sources: &mut Vec<Source<'a>>, slices: &'a [SliceCell]) -> Result<(), AllocError>
     requires { length (flat_map slice_sources slices.now) < 2 ^ 32 }
     ensures { OnOk result (sources.new.items ≡ sources.old.items ++ flat_map slice_sources slices.now) }
@@ -95,6 +99,7 @@ fn add_slices<'a>(sources: &mut Vec<Source<'a>>, slices: &'a [SliceCell]) -> Res
 }
 
 // Adds the parts of pads.
+#[tactic(auto, using(crate::proofs::Gathered::flat_more, crate::proofs::Gathered::flat_all))]
 fn add_pads<'a>(sources: &mut Vec<Source<'a>>, pads: &'a [PadCell]) -> Result<(), AllocError>
     ensures { OnOk result (sources.new.items ≡ sources.old.items ++ flat_map pad_sources pads.now) }
 {
@@ -126,6 +131,7 @@ fn add_output<'a>(outputs: &mut Vec<&'a PadCell>, pad: &'a PadCell) -> Result<()
 }
 
 /// The output pads.
+#[tactic(auto, using(crate::proofs::Gathered::outputs_more, crate::proofs::Gathered::outputs_all))]
 pub(crate) fn outputs<'a>(alloc: Global, pads: &'a [PadCell]) -> Result<Vec<&'a PadCell>, AllocError>
     ensures { IfOk result (λ v. map (λ p. p.now) v.items ≡ filter (λ p. is_output p.role) pads.now) }
 {

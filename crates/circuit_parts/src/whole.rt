@@ -39,6 +39,7 @@ impl<'a> Model for Parts<'a> {
 
 impl<'a> Parts<'a> {
     /// The parts and pins of cells; takes time in proportion to them.
+    #[tactic(auto, using(crate::proofs::Starts::flat_made))]
     pub fn of(alloc: Global, cells: &'a Cells) -> Result<Parts<'a>, AllocError>
         requires { AreFew cells.now }
         ensures { IfOk result (λ parts. parts ≡ cells.now) }
@@ -89,6 +90,7 @@ impl<'a> Parts<'a> {
     }
 
     /// The number of the first pin of a part; for the number of parts, that of the first pin of an output pad.
+    #[tactic(auto, using(crate::proofs::Starts::starts_long, crate::proofs::Starts::start_is, crate::proofs::Starts::first_within))]
     pub fn first_pin(&self, k: SourceId) -> u32
         requires { k ≤ length (sources_of self.now) }
         ensures first { result ≡ first_pin_of self.now k }
@@ -104,9 +106,7 @@ impl<'a> Parts<'a> {
         ensures range { result.now ≡ slice_range (pins_in self.now) (first_pin_of self.now k) (first_pin_of self.now (k + 1)) }
     {
         let place = k.to_u32() as usize;
-        let start = self.starts[place] as usize;
-        let end = self.starts[place + 1] as usize;
-        &self.pins[start..end]
+        part(&self.pins, self.starts[place] as usize, self.starts[place + 1] as usize)
     }
 
     /// The pins of output pads, which have the last numbers.
@@ -115,6 +115,15 @@ impl<'a> Parts<'a> {
         ensures range { result.now ≡ drop (first_pin_of self.now (length (sources_of self.now))) (pins_in self.now) }
     {
         let start = self.starts[self.sources.len()] as usize;
-        &self.pins[start..]
+        part(&self.pins, start, self.pins.len())
     }
+}
+
+// The pins from one place up to another one.
+fn part<'p, 'a>(pins: &'p [Pin<'a>], start: usize, end: usize) -> &'p [Pin<'a>]
+    requires order { start ≤ end }
+    requires within { end ≤ length pins.now }
+    ensures { result.now ≡ slice_range pins.now start end }
+{
+    &pins[start..end]
 }
