@@ -1,12 +1,13 @@
 -- Where the pins of each part begin.
-use Rattle.std.proofs.Common.{◌≡◌, ℕ, zero, suc, ◌+◌, ◌-◌, ◌<◌, ◌≤◌, List, [], ◌∷◌, ◌++◌, length, get_or, drop, take, map, refl, sym, ap, subst, ◌∙◌, arith, Bor}
-use Rattle.std.specs.Prelude.{slice_range}
+use Rattle.std.proofs.Common.{◌≡◌, ℕ, zero, suc, ◌+◌, ◌-◌, ◌<◌, ◌≤◌, List, [], ◌∷◌, ◌++◌, length, get_or, drop, take, map, Option, None, Some, option_map, refl, sym, ap, subst, ◌∙◌, arith, Bor}
+use Rattle.std.specs.Prelude.{slice_get, slice_range}
 use Rattle.std.specs.List.{flat_map}
-use Rattle.std.proofs.lemmas.List.{append-nil, append_assoc, length-append, drop_more, drop_all, drop_at, take_at, take_more, take-append-drop}
+use Rattle.std.proofs.lemmas.List.{append-nil, append_assoc, length-append, drop_more, drop_all, drop_at, take_at, take_all, take_more, take-append-drop}
+use Rattle.std.proofs.lemmas.Option.{get_or_from_slice_get}
 use Rattle.std.proofs.lemmas.List.Concat.{flat_map-append}
 use Rattle.circuit.specs.Cells.{PadCell, Cells}
 use Rattle.circuit.specs.Parts.{Source, sources, output_pads}
-use Rattle.circuit.specs.Pins.{Pin, pad_pin, source_pins}
+use Rattle.circuit.specs.Pins.{Pin, pad_pin, pins, source_pins}
 use Rattle.circuit_parts.specs.Flat.{AreFew, AreFlat, first_pin, starts_from}
 
 -- one part more: where it begins, and its pins
@@ -84,26 +85,45 @@ flat_made cells ss ps pads starts few sources_are pins_are pads_are starts_are =
   starts_are = starts_are ∙ ap (starts_from 0) sources_are;
 }
 
-module _ (cells : Cells) (ss : List Source) (ps : List Pin) (pads : List PadCell) (starts : List ℕ) (are : AreFlat cells ss ps pads starts) where
-  pub starts_long : length starts ≡ length (sources cells) + 1
-  starts_long = ap (λ xs. length xs) are.starts_are ∙ length_starts 0 (sources cells)
+first_below : (v : Cells) (k : ℕ) → first_pin v k ≤ length (pins v)
+first_below v k =
+    let split : flat_map source_pins (sources v) ≡ flat_map source_pins (take k (sources v)) ++ flat_map source_pins (drop k (sources v)) = ap (flat_map source_pins) (sym (take-append-drop k (sources v))) ∙ flat_map-append source_pins (take k (sources v)) (drop k (sources v)) in
+    let inner = length-append (flat_map source_pins (take k (sources v))) (flat_map source_pins (drop k (sources v))) in
+    let outer = length-append (flat_map source_pins (sources v)) (map pad_pin (output_pads v)) in
+    let same = ap (λ xs. length xs) split in
+    omega arith
 
-  pub start_is : (k : ℕ) → k ≤ length (sources cells) → get_or starts k 0 ≡ first_pin cells k
-  start_is k h = (let at = start_at 0 k (sources cells) h in ap (λ xs. get_or xs k 0) are.starts_are ∙ omega arith)
+element : (ss : List Source) (k : ℕ) → k < length ss → (s : Source) × (slice_get ss k ≡ Some s)
+element [] k h = absurd (omega arith)
+element (s ∷ ss) zero h = (s, refl)
+element (s ∷ ss) (suc k) h = element ss k (omega arith)
 
-  pub first_within : (k : ℕ) → first_pin cells k ≤ length ps
-  first_within k =
-      let split : flat_map source_pins (sources cells) ≡ flat_map source_pins (take k (sources cells)) ++ flat_map source_pins (drop k (sources cells)) = ap (flat_map source_pins) (sym (take-append-drop k (sources cells))) ∙ flat_map-append source_pins (take k (sources cells)) (drop k (sources cells)) in
-      let inner = length-append (flat_map source_pins (take k (sources cells))) (flat_map source_pins (drop k (sources cells))) in
-      let outer = length-append (flat_map source_pins (sources cells)) (map pad_pin (output_pads cells)) in
-      let same = ap (λ xs. length xs) split in
-      let long = ap (λ xs. length xs) are.pins_are in
-      omega arith
+-- the pins of a part stand in a row
+pub pins_cut : (v : Cells) (k : ℕ) → k < length (sources v) → Some (slice_range (pins v) (first_pin v k) (first_pin v (k + 1))) ≡ option_map source_pins (slice_get (sources v) k)
+pins_cut v k below =
+    let e = element (sources v) k below in
+    let same : get_or (sources v) k e.0 ≡ e.0 = get_or_from_slice_get (sources v) k e.0 e.0 e.1 in
+    ap (λ ps. Some ps) (cut_part (sources v) (map pad_pin (output_pads v)) k e.0 below ∙ ap source_pins same) ∙ sym (ap (option_map source_pins) e.1)
 
-  pub first_rises : (none : Source) (k : ℕ) → k < length (sources cells) → first_pin cells k ≤ first_pin cells (k + 1)
-  first_rises none k below =
-      let d = get_or (sources cells) k none in
-      let up_to = ap (flat_map source_pins) (take_more (sources cells) k none below) ∙ flat_map-append source_pins (take k (sources cells)) (d ∷ []) in
-      let long = ap (λ xs. length xs) up_to in
-      let parts = length-append (flat_map source_pins (take k (sources cells))) (flat_map source_pins (d ∷ [])) in
-      omega arith
+pub first_rises : (v : Cells) (k : ℕ) → k < length (sources v) → first_pin v k ≤ first_pin v (k + 1)
+first_rises v k below =
+    let e = element (sources v) k below in
+    let d = get_or (sources v) k e.0 in
+    let up_to = ap (flat_map source_pins) (take_more (sources v) k e.0 below) ∙ flat_map-append source_pins (take k (sources v)) (d ∷ []) in
+    let long = ap (λ xs. length xs) up_to in
+    let parts = length-append (flat_map source_pins (take k (sources v))) (flat_map source_pins (d ∷ [])) in
+    omega arith
+
+-- those of output pads come last
+pub pads_cut : (v : Cells) → drop (first_pin v (length (sources v))) (pins v) ≡ map pad_pin (output_pads v)
+pads_cut v = drop_at (flat_map source_pins (sources v)) (map pad_pin (output_pads v)) (first_pin v (length (sources v))) (ap (λ ss. length (flat_map source_pins ss)) (sym (take_all (length (sources v)) (sources v) (omega arith))))
+
+-- what is kept tells where pins begin
+pub start_kept : (cells v : Cells) (ss : List Source) (ps : List Pin) (pads : List PadCell) (starts : List ℕ) (k : ℕ) → AreFlat cells ss ps pads starts → cells ≡ v → k ≤ length (sources v)
+    → (k < length starts) × ((get_or starts k 0 ≡ first_pin v k) × (first_pin v k ≤ length (pins v)))
+start_kept cells v ss ps pads starts k are is below =
+    let starts_are : starts ≡ starts_from 0 (sources v) = are.starts_are ∙ ap (λ x. starts_from 0 (sources x)) is in
+    let at = start_at 0 k (sources v) below in
+    let long = ap (λ xs. length xs) starts_are in
+    let many = length_starts 0 (sources v) in
+    (omega arith, (ap (λ xs. get_or xs k 0) starts_are ∙ omega arith, first_below v k))

@@ -1,6 +1,6 @@
 //! All parts and pins of cells.
 
-ghost use Rattle.std.specs.Prelude.{◌≡◌, ◌+◌, ◌<◌, ◌≤◌, ◌^◌, IfOk, Some, drop, length, map, option_map, slice_get, slice_range};
+ghost use Rattle.std.specs.Prelude.{◌≡◌, ◌+◌, ◌<◌, ◌≤◌, ◌^◌, IfOk, Some, drop, length, map, option_map, slice_get, slice_index, slice_range};
 ghost use Rattle.circuit.specs.Parts.{output_pads, sources as sources_of};
 ghost use Rattle.circuit.specs.Pins.{pad_pin, pins as pins_in, source_pins};
 ghost use Rattle.circuit_parts.specs.Flat.{AreFew, first_pin as first_pin_of};
@@ -89,34 +89,54 @@ impl<'a> Parts<'a> {
         self.outputs.as_slice()
     }
 
-    /// The number of the first pin of a part; for the number of parts, that of the first pin of an output pad.
-    #[tactic(auto, using(crate::proofs::Starts::starts_long, crate::proofs::Starts::start_is, crate::proofs::Starts::first_within))]
-    pub fn first_pin(&self, k: SourceId) -> u32
+    // Where the pins of a part begin.
+    fn start(&self, k: usize) -> usize
         requires { k ≤ length (sources_of self.now) }
         ensures first { result ≡ first_pin_of self.now k }
         ensures within { result ≤ length (pins_in self.now) }
     {
-        self.starts[k.to_u32() as usize]
+        start_of(&self.starts, k) as usize
+    }
+
+    /// The number of the first pin of a part; for the number of parts, that of the first pin of an output pad.
+    pub fn first_pin(&self, k: SourceId) -> usize
+        requires { k ≤ length (sources_of self.now) }
+        ensures first { result ≡ first_pin_of self.now k }
+        ensures within { result ≤ length (pins_in self.now) }
+    {
+        self.start(k.to_u32() as usize)
     }
 
     /// The pins of a part, which are numbered in a row.
+    #[tactic(auto, using(crate::proofs::Starts::pins_cut, crate::proofs::Starts::first_rises))]
     pub fn pins_of(&self, k: SourceId) -> &[Pin<'a>]
         requires { k < length (sources_of self.now) }
         ensures pins { Some result.now ≡ option_map source_pins (slice_get (sources_of self.now) k) }
         ensures range { result.now ≡ slice_range (pins_in self.now) (first_pin_of self.now k) (first_pin_of self.now (k + 1)) }
     {
         let place = k.to_u32() as usize;
-        part(&self.pins, self.starts[place] as usize, self.starts[place + 1] as usize)
+        let start = self.start(place);
+        let end = self.start(place + 1);
+        part(self.pins(), start, end)
     }
 
     /// The pins of output pads, which have the last numbers.
+    #[tactic(auto, using(crate::proofs::Starts::pads_cut))]
     pub fn output_pins(&self) -> &[Pin<'a>]
         ensures pins { result.now ≡ map pad_pin (output_pads self.now) }
         ensures range { result.now ≡ drop (first_pin_of self.now (length (sources_of self.now))) (pins_in self.now) }
     {
-        let start = self.starts[self.sources.len()] as usize;
-        part(&self.pins, start, self.pins.len())
+        let start = self.start(self.sources().len());
+        rest(self.pins(), start)
     }
+}
+
+// Where the pins of a part begin.
+fn start_of(starts: &[u32], k: usize) -> u32
+    requires { k < length starts.now }
+    ensures { result ≡ slice_index starts.now k }
+{
+    starts[k]
 }
 
 // The pins from one place up to another one.
@@ -126,4 +146,12 @@ fn part<'p, 'a>(pins: &'p [Pin<'a>], start: usize, end: usize) -> &'p [Pin<'a>]
     ensures { result.now ≡ slice_range pins.now start end }
 {
     &pins[start..end]
+}
+
+// The pins from a place on.
+fn rest<'p, 'a>(pins: &'p [Pin<'a>], start: usize) -> &'p [Pin<'a>]
+    requires { start ≤ length pins.now }
+    ensures { result.now ≡ drop start pins.now }
+{
+    &pins[start..]
 }

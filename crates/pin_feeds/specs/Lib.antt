@@ -1,3 +1,4 @@
 pub mod PinFeeds
 pub mod Outputs
 pub mod Unnamed
+pub mod LeastUnnamed
