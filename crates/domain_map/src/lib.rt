@@ -1,13 +1,8 @@
-// A library with one function.
+//! Labels of wires: the domain of each, and whether it is the wire of a pin.
 #![tactic(auto)]
 
-ghost use Rattle.std.specs.Prelude.{◌≡◌};
-ghost use Rattle.domain_map.specs.Echo.{echo_of};
+mod domains;
+mod labels;
+mod marks;
 
-// The `ensures` clause is the contract: what `echo` returns is `echo_of` of its argument, a definition
-// in `specs/Echo.antt`, which a caller's clause can cite too.
-pub fn echo(x: usize) -> usize
-    ensures { result ≡ echo_of x }
-{
-    x
-}
+pub use labels::Labels;

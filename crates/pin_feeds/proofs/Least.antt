@@ -1,25 +1,24 @@
 -- The least pin that an unnamed cell feeds.
-use Rattle.std.proofs.Common.{◌≡◌, ◌≢◌, ℕ, ◌+◌, ◌<◌, ◌≤◌, List, length, get_or, map, Option, None, Some, ◌⊎◌, inl, inr, refl, sym, ap, subst, ◌∙◌, arith}
+use Rattle.std.proofs.Common.{◌≡◌, ◌≢◌, ℕ, zero, suc, ◌+◌, ◌<◌, ◌≤◌, List, [], ◌∷◌, length, get_or, map, Option, None, Some, ◌⊎◌, inl, inr, refl, sym, ap, subst, ◌∙◌, arith}
 use Rattle.std.specs.Prelude.{slice_get}
 use Rattle.std.specs.Option.{option_map}
 use Rattle.std.specs.declared.cmp.Ordering.{Ordering}
 use Rattle.std.specs.declared.cmp.Ordering.TheVariants.{Less, Equal, Greater}
 use Rattle.std.specs.Ordering.{ordering_reverse}
-use Rattle.std.specs.Cmp.{IsTotalOrder}
+use Rattle.std.specs.Cmp.{IsTotalOrder, nat_cmp_total, on_total, then_total}
+use Rattle.std.specs.Cmp.Lexicographic.{nat_list_cmp_total}
 use Rattle.std.proofs.lemmas.List.{length-map}
-use Rattle.std.proofs.lemmas.Option.{slice_get-map, slice_get_within}
+use Rattle.std.proofs.lemmas.Option.{slice_get-map, slice_get_read, slice_get_within}
 use Rattle.words.specs.Members.{In}
 use Rattle.links.specs.Links.{IsClean}
 use Rattle.links.proofs.Members.{same_number}
-use Rattle.circuit.specs.Parts.{Source, sources}
+use Rattle.circuit.specs.Parts.{PartRef, Source, sources}
 use Rattle.circuit.specs.Pins.{Pin, PinRef, pins}
 use Rattle.circuit.specs.Cells.{Cells}
 use Rattle.circuit.specs.Circuits.{Circuit}
-use Rattle.attempts.specs.PinOrder.{pin_cmp}
-use Rattle.attempt_laws.proofs.Orders.{pin_total}
+use Rattle.attempts.specs.PinOrder.{rank_of, number_of, part_cmp, pin_cmp}
 use Rattle.fabric_laws.proofs.Numbered.{get_in, number_there}
 use Rattle.design_checks.specs.PinChecks.{IsFedUnnamed}
-use Rattle.check_laws.specs.Accepted.{FeedsAreModelled}
 use Rattle.wire_feeds.specs.Rows.{AreFeeds}
 use Rattle.pin_feeds.specs.declared.errors.UnnamedFeed.{UnnamedFeed}
 use Rattle.pin_feeds.specs.Outputs.{AreOutputs, part_at, unnamed_at}
@@ -27,6 +26,12 @@ use Rattle.pin_feeds.specs.PinFeeds.{IsPinFeed, ArePinFeeds}
 use Rattle.pin_feeds.specs.LeastUnnamed.{IsLeastOf, LeastSoFar}
 use Rattle.pin_feeds.specs.Unnamed.{IsUnnamedFeed}
 use Rattle.pin_feeds.proofs.Telling.{unnamed_feed, named_pin, modelled_feed}
+
+part_total : IsTotalOrder part_cmp
+part_total = then_total (on_total (λ p. p.cell) nat_list_cmp_total) (then_total (on_total (λ p. rank_of p.part) nat_cmp_total) (on_total (λ p. number_of p.part) nat_cmp_total))
+
+pin_total : IsTotalOrder pin_cmp
+pin_total = then_total (on_total (λ p. p.part) part_total) (on_total (λ p. p.pin) nat_cmp_total)
 
 some_pin : (a b : Pin) → Some a ≡ Some b → a ≡ b
 some_pin a b h = cc
@@ -123,19 +128,14 @@ module _ (c : Circuit) (feeds parts : List (Option ℕ)) (clean : IsClean c.rout
   unnamed = unnamed_at feeds parts
 
   -- no pin has such a feed
-  pub all_named : LeastSoFar unnamed (pins c.cells) (length (pins c.cells)) None → (v : List (Option ℕ)) → v ≡ map (λ p. part_at feeds parts p.wire) (pins c.cells) → ArePinFeeds c v × FeedsAreModelled c
-  all_named none v is = (
-    record {
-      long = ap (λ xs. length xs) is ∙ length-map (pins c.cells) (λ p. part_at feeds parts p.wire);
-      each = λ i p feed at there.
-      let made : Some feed ≡ Some (part_at feeds parts p.wire) = sym there ∙ (ap (λ xs. slice_get xs i) is ∙ (slice_get-map (λ (q : Pin). part_at feeds parts q.wire) (pins c.cells) i ∙ ap (option_map (λ (q : Pin). part_at feeds parts q.wire)) at)) in
-      let same : feed ≡ part_at feeds parts p.wire = cc in
-      subst (IsPinFeed c p) (sym same) (named_pin c feeds parts are outputs long p (none i p (slice_get_within (pins c.cells) i p at) at));
-    },
-    λ p o i f.
-    let at = number_there (pins c.cells) p i in
-    modelled_feed c feeds parts are outputs long clean p.wire o f (none at.0 p (slice_get_within (pins c.cells) at.0 p at.1) at.1),
-  )
+  pub all_named : LeastSoFar unnamed (pins c.cells) (length (pins c.cells)) None → (v : List (Option ℕ)) → v ≡ map (λ p. part_at feeds parts p.wire) (pins c.cells) → ArePinFeeds c v
+  all_named none v is = record {
+    long = ap (λ xs. length xs) is ∙ length-map (pins c.cells) (λ p. part_at feeds parts p.wire);
+    each = λ i p feed at there.
+    let made : Some feed ≡ Some (part_at feeds parts p.wire) = sym there ∙ (ap (λ xs. slice_get xs i) is ∙ (slice_get-map (λ (q : Pin). part_at feeds parts q.wire) (pins c.cells) i ∙ ap (option_map (λ (q : Pin). part_at feeds parts q.wire)) at)) in
+    let same : feed ≡ part_at feeds parts p.wire = cc in
+    subst (IsPinFeed c p) (sym same) (named_pin c feeds parts are outputs long p (none i p (slice_get_within (pins c.cells) i p at) at));
+  }
 
   fed_unnamed : (p : Pin) (o : ℕ) → In (pins c.cells) p → unnamed p.wire ≡ Some o → IsFedUnnamed c p.ref o
   fed_unnamed p o i h =
@@ -160,3 +160,58 @@ module _ (c : Circuit) (feeds parts : List (Option ℕ)) (clean : IsClean c.rout
         };
         feed = fed;
       }
+
+-- ---- of two the lesser
+
+element : (all : List Pin) (i : ℕ) → i < length all → (p : Pin) × (slice_get all i ≡ Some p)
+element [] i h = absurd (omega arith)
+element (p ∷ ps) zero h = (p, refl)
+element (p ∷ ps) (suc i) h = element ps i (omega arith)
+
+module _ (unnamed : ℕ → Option ℕ) (all : List Pin) (v : UnnamedFeed) (below : v.pin < length all) (fed : (p : Pin) → slice_get all v.pin ≡ Some p → unnamed p.wire ≡ Some v.feed) where
+  -- none was there
+  pub lesser_begins : (least : Option UnnamedFeed) → LeastSoFar unnamed all v.pin least → least ≡ None → IsLeastOf unnamed all (v.pin + 1) v
+  lesser_begins least so_far none =
+      let p = element all v.pin below in
+      least_begins unnamed all v.pin p.0 p.1 v (subst (LeastSoFar unnamed all v.pin) none so_far) refl (fed p.0 p.1)
+
+  module _ (least : Option UnnamedFeed) (u : UnnamedFeed) (so_far : LeastSoFar unnamed all v.pin least) (is : least ≡ Some u) (o : Ordering)
+      (order : (p q : Pin) → slice_get all u.pin ≡ Some p → slice_get all v.pin ≡ Some q → o ≡ pin_cmp p.ref q.ref) where
+    first : IsLeastOf unnamed all v.pin u
+    first = subst (LeastSoFar unnamed all v.pin) is so_far
+
+    pub lesser_moves : o ≡ Greater → IsLeastOf unnamed all (v.pin + 1) v
+    lesser_moves greater =
+        let p = element all v.pin below in
+        least_moves unnamed all v.pin p.0 p.1 u v first.pin first.numbered first (sym (order first.pin p.0 first.numbered p.1) ∙ greater) refl (fed p.0 p.1)
+
+    pub lesser_stays : o ≢ Greater → IsLeastOf unnamed all (v.pin + 1) u
+    lesser_stays other =
+        let p = element all v.pin below in
+        least_stays unnamed all v.pin p.0 p.1 u first.pin first.numbered first (λ h. other (order first.pin p.0 first.numbered p.1 ∙ h))
+
+-- a pin at its place that has no such feed
+pub passed : (unnamed : ℕ → Option ℕ) (all : List Pin) (n : ℕ) (p : Pin) (least : Option UnnamedFeed) → n < length all → p ≡ get_or all n p → LeastSoFar unnamed all n least → unnamed p.wire ≡ None → LeastSoFar unnamed all (n + 1) least
+passed unnamed all n p least below is so_far none = least_passed unnamed all n p (slice_get_read all (length all) n p refl below is) least so_far none
+
+-- ---- answers
+
+pub unnamed_answer : (cells : Cells) (feeds parts lent : List (Option ℕ)) (ps : List Pin) (o : Option UnnamedFeed) (u : UnnamedFeed) → ps ≡ pins cells → lent ≡ parts → AreOutputs (sources cells) parts → length parts ≡ length feeds
+    → LeastSoFar (unnamed_at feeds lent) ps (length ps) o → o ≡ Some u → (c : Circuit) → c.cells ≡ cells → IsClean c.routing → AreFeeds c.routing feeds → IsUnnamedFeed c u
+unnamed_answer cells feeds parts lent ps o u pins_are lent_are outputs long least is c of_cells clean are =
+    let own : AreOutputs (sources c.cells) parts = subst (λ x. AreOutputs (sources x) parts) (sym of_cells) outputs in
+    let first : LeastSoFar (unnamed_at feeds lent) ps (length ps) (Some u) = subst (LeastSoFar (unnamed_at feeds lent) ps (length ps)) is least in
+    let second : IsLeastOf (unnamed_at feeds parts) ps (length ps) u = subst (λ x. IsLeastOf (unnamed_at feeds x) ps (length ps) u) lent_are first in
+    let third : IsLeastOf (unnamed_at feeds parts) (pins c.cells) (length (pins c.cells)) u = subst (λ x. IsLeastOf (unnamed_at feeds parts) x (length x) u) (pins_are ∙ ap pins (sym of_cells)) second in
+    one_unnamed c feeds parts clean are own long u third
+
+pub named_answer : (cells : Cells) (feeds parts lent again : List (Option ℕ)) (ps qs : List Pin) (o : Option UnnamedFeed) (v : List (Option ℕ)) → ps ≡ pins cells → qs ≡ pins cells → lent ≡ parts → again ≡ parts → AreOutputs (sources cells) parts
+    → length parts ≡ length feeds → LeastSoFar (unnamed_at feeds lent) ps (length ps) o → o ≡ None → v ≡ map (λ p. part_at feeds again p.wire) qs
+    → (c : Circuit) → c.cells ≡ cells → IsClean c.routing → AreFeeds c.routing feeds → ArePinFeeds c v
+named_answer cells feeds parts lent again ps qs o v pins_are again_are lent_are again_lent outputs long least is made c of_cells clean are =
+    let own : AreOutputs (sources c.cells) parts = subst (λ x. AreOutputs (sources x) parts) (sym of_cells) outputs in
+    let first : LeastSoFar (unnamed_at feeds lent) ps (length ps) None = subst (LeastSoFar (unnamed_at feeds lent) ps (length ps)) is least in
+    let second : LeastSoFar (unnamed_at feeds parts) ps (length ps) None = subst (λ x. LeastSoFar (unnamed_at feeds x) ps (length ps) None) lent_are first in
+    let third : LeastSoFar (unnamed_at feeds parts) (pins c.cells) (length (pins c.cells)) None = subst (λ x. LeastSoFar (unnamed_at feeds parts) x (length x) None) (pins_are ∙ ap pins (sym of_cells)) second in
+    let values : v ≡ map (λ p. part_at feeds parts p.wire) (pins c.cells) = made ∙ (ap (λ x. map (λ (p : Pin). part_at feeds x p.wire) qs) again_lent ∙ ap (map (λ (p : Pin). part_at feeds parts p.wire)) (again_are ∙ ap pins (sym of_cells))) in
+    all_named c feeds parts clean are own long third v values

@@ -91,11 +91,11 @@ none_yet count o k h =
     no_some k (sym (get_or-replicate count o None None long) ∙ h)
 
 -- all parts, written to a list in which nothing stands
-pub outputs_made : (all : List Source) (parts whole : List (Option ℕ)) (count : ℕ) → parts ≡ replicate count None → whole ≡ outputs_from parts 0 all → AreOutputs all whole
-outputs_made all parts whole count empty is = subst (AreOutputs all) (sym is) (record {
-  known = known_all all parts 0 all (λ k s h. h) (λ o k h. absurd (none_yet count o k (subst (λ ps. get_or ps o None ≡ Some k) empty h)));
-  none = λ s i below. written parts 0 all s i (subst (λ l. s.out < l) (length_outputs parts 0 all) below);
+pub outputs_made : (all : List Source) (whole : List (Option ℕ)) (count : ℕ) → whole ≡ outputs_from (replicate count None) 0 all → AreOutputs all whole
+outputs_made all whole count is = subst (AreOutputs all) (sym is) (record {
+  known = known_all all (replicate count None) 0 all (λ k s h. let e : k ≡ 0 + k = omega arith in subst (λ m. slice_get all m ≡ Some s) e h) (λ o k h. absurd (none_yet count o k h));
+  none = λ s i below. written (replicate count None) 0 all s i (subst (λ l. s.out < l) (length_outputs (replicate count None) 0 all) below);
 })
 
-pub long_made : (all : List Source) (parts whole : List (Option ℕ)) (count : ℕ) → parts ≡ replicate count None → whole ≡ outputs_from parts 0 all → length whole ≡ count
-long_made all parts whole count empty is = ap (λ ps. length ps) is ∙ (length_outputs parts 0 all ∙ (ap (λ ps. length ps) empty ∙ length-replicate count None))
+pub long_made : (all : List Source) (whole : List (Option ℕ)) (count : ℕ) → whole ≡ outputs_from (replicate count None) 0 all → length whole ≡ count
+long_made all whole count is = ap (λ ps. length ps) is ∙ (length_outputs (replicate count None) 0 all ∙ length-replicate count None)

@@ -2,3 +2,4 @@ pub mod PinFeeds
 pub mod Outputs
 pub mod Unnamed
 pub mod LeastUnnamed
+pub mod Told

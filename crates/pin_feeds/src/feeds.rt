@@ -1,17 +1,16 @@
 //! What feeds each pin.
 
-ghost use Rattle.std.specs.Prelude.{◌≡◌, ◌↔◌, IsTrue, IfOk, MatchResult, List, length, map};
+ghost use Rattle.std.specs.Prelude.{◌≡◌, ◌↔◌, IfOk, IsTrue, MatchResult, length, map};
 ghost use Rattle.circuit.specs.Circuits.{Circuit};
 ghost use Rattle.circuit.specs.Pins.{pins as pins_of};
 ghost use Rattle.links.specs.Links.{IsClean};
-ghost use Rattle.check_laws.specs.Accepted.{FeedsAreModelled};
 ghost use Rattle.wire_feeds.specs.Rows.{AreFeeds};
-ghost use Rattle.pin_feeds.specs.Outputs.{AreOutputs, part_at};
+ghost use Rattle.pin_feeds.specs.Outputs.{part_at};
 ghost use Rattle.pin_feeds.specs.PinFeeds.{ArePinFeeds};
 ghost use Rattle.pin_feeds.specs.Unnamed.{Refuses};
 
 use crate::FeedError;
-use crate::outputs::parts_of_outputs;
+use crate::outputs::{feed_at, part_with, parts_of_outputs};
 use crate::unnamed::least_unnamed;
 use cell_parts::Pin;
 use circuit_parts::{Parts, SourceId};
@@ -26,11 +25,14 @@ fn part_of(
 ) -> Option<SourceId>
     ensures { result ≡ part_at feeds.now of_wires.now wire }
 {
-    let feed = (*feeds.get(wire.to_u32() as usize)?)?;
-    *of_wires.get(feed.to_u32() as usize)?
+    match feed_at(feeds, wire) {
+        Some(feed) => part_with(of_wires, feed),
+        None => None,
+    }
 }
 
 // The part that feeds each pin.
+#[tactic(auto, using(circuit_parts::proofs::Gathered::map_more, circuit_parts::proofs::Gathered::map_all))]
 fn parts_of_pins(
     alloc: Global,
     pins: &[Pin<'_>],
@@ -55,18 +57,43 @@ pub fn pin_feeds(
 ) -> Result<Vec<Option<SourceId>>, FeedError>
     ensures long { IfOk result (λ v. length v.items ≡ length (pins_of parts.now)) }
     ensures answer { (c : Circuit) → c.cells ≡ parts.now → IsClean c.routing → AreFeeds c.routing feeds.now
-        → MatchResult result (λ v. ArePinFeeds c v.items × FeedsAreModelled c) (Refuses c) }
+        → MatchResult result (λ v. ArePinFeeds c v.items) (Refuses c) }
 {
     let of_wires = parts_of_outputs(alloc, parts, feeds.len())?;
-    if let Some(unnamed) = least_unnamed(parts.pins(), feeds, &of_wires) {
-        return Err(FeedError::Unnamed(unnamed));
+    match least_unnamed(parts.pins(), feeds, &of_wires) {
+        Some(unnamed) => Err(FeedError::Unnamed(unnamed)),
+        None => {
+            let of_pins = parts_of_pins(alloc, parts.pins(), feeds, &of_wires)?;
+            Ok(of_pins)
+        }
     }
-    Ok(parts_of_pins(alloc, parts.pins(), feeds, &of_wires)?)
+}
+
+// Whether two pins are fed by the same part, or none is fed.
+fn same_feed(a: Option<SourceId>, b: Option<SourceId>) -> bool
+    ensures { IsTrue result ↔ (a ≡ b) }
+{
+    match a {
+        Some(first) => match b {
+            Some(second) => first.to_u32() == second.to_u32(),
+            None => false,
+        },
+        None => b.is_none(),
+    }
 }
 
 /// Whether two lists of feeds are equal.
+#[tactic(auto, using(crate::proofs::Equal::one_more_same, crate::proofs::Equal::all_same, crate::proofs::Equal::one_differs))]
 pub fn same(a: &[Option<SourceId>], b: &[Option<SourceId>]) -> bool
     ensures { IsTrue result ↔ (a.now ≡ b.now) }
 {
-    a == b
+    if a.len() != b.len() {
+        return false;
+    }
+    for i in 0..a.len() {
+        if !same_feed(a[i], b[i]) {
+            return false;
+        }
+    }
+    true
 }
