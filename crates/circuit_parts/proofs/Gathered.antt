@@ -1,12 +1,12 @@
 -- Lists that are gathered element by element, and what is left of them.
-use Rattle.std.proofs.Common.{◌≡◌, ℕ, suc, ◌+◌, ◌<◌, ◌≤◌, Bool, true, false, List, [], ◌∷◌, ◌++◌, length, get_or, drop, take, map, filter, refl, sym, ap, subst, ◌∙◌, add-one, arith}
+use Rattle.std.proofs.Common.{◌≡◌, ℕ, suc, ◌+◌, ◌<◌, ◌≤◌, Bool, true, false, List, [], ◌∷◌, ◌++◌, length, get_or, drop, map, filter, refl, sym, ap, subst, ◌∙◌, add-one, arith}
 use Rattle.std.specs.List.{flat_map}
 use Rattle.std.proofs.lemmas.List.{append-nil, append_assoc, length-append, drop_more, drop_all}
 use Rattle.std.proofs.lemmas.List.Folds.{length-flat_map-take}
 use Rattle.circuit.specs.Cells.{SliceCell, PadCell}
-use Rattle.circuit.specs.Parts.{PartRef, PartKind, Kind, OfTable, Source, numbered, table_source, register_source, slice_sources, is_output}
+use Rattle.circuit.specs.Parts.{OfTable, Source, numbered, table_source, register_source, slice_sources, is_output}
 use Rattle.circuit.specs.Cells.{TableCell}
-use Rattle.circuit.specs.Pins.{Pin, pin_at, table_pins, bit_pins_of, clock_pins_of, source_pins}
+use Rattle.circuit.specs.Pins.{pin_at, bit_pins_of, clock_pins_of, source_pins}
 
 pub length_numbered : {X Y : Type 0} (make : ℕ → X → Y) (n : ℕ) (xs : List X) → length (numbered make n xs) ≡ length xs
 length_numbered make n [] = refl

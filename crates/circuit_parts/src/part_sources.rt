@@ -4,7 +4,9 @@ ghost use Rattle.std.specs.Prelude.{◌≡◌, ◌<◌, ◌^◌, ◌∷◌, ◌+
 ghost use Rattle.std.specs.List.{flat_map};
 ghost use Rattle.circuit.specs.Parts.{is_output, numbered, pad_sources, register_source, slice_sources, sources as sources_of, table_source};
 
-use cell_parts::{Cells, Kind, PadCell, PartKind, RegisterCell, Role, SliceCell, Source, TableCell};
+use cell_parts::{
+    Cells, Kind, PadCell, PartKind, RegisterCell, Role, SliceCell, Source, TableCell,
+};
 use std::alloc::{AllocError, Global};
 
 // A table as a part of its slice.
@@ -132,7 +134,10 @@ fn add_output<'a>(outputs: &mut Vec<&'a PadCell>, pad: &'a PadCell) -> Result<()
 
 /// The output pads.
 #[tactic(auto, using(crate::proofs::Gathered::outputs_more, crate::proofs::Gathered::outputs_all))]
-pub(crate) fn outputs<'a>(alloc: Global, pads: &'a [PadCell]) -> Result<Vec<&'a PadCell>, AllocError>
+pub(crate) fn outputs<'a>(
+    alloc: Global,
+    pads: &'a [PadCell],
+) -> Result<Vec<&'a PadCell>, AllocError>
     ensures { IfOk result (λ v. map (λ p. p.now) v.items ≡ filter (λ p. is_output p.role) pads.now) }
 {
     let mut outputs = Vec::new(alloc);

@@ -91,8 +91,8 @@ pub labels_made : (cells : Cells) (feeds parts : List (Option ℕ)) (domains : L
     → (c : Circuit) → c.cells ≡ cells → IsClean c.routing → IsWellFormed c → AreFeeds c.routing feeds → AreLabels c (record { domains = domains; is_pin = marks })
 labels_made cells feeds parts domains marks outputs long domains_are marks_made within c of_cells clean formed are = record {
   domains_are = λ w d.
-  let own : AreOutputs (sources c.cells) parts = subst (λ x. AreOutputs (sources x) parts) (sym of_cells) outputs in
-  let same : map (domain_by (sources c.cells) parts) feeds ≡ domains = ap (λ x. map (domain_by (sources x) parts) feeds) of_cells ∙ sym domains_are in
-  subst (λ xs. HasDomain c w d ↔ (get_or xs w None ≡ Some d)) same (domains_told c feeds parts clean formed are own long w d);
+      let own : AreOutputs (sources c.cells) parts = subst (λ x. AreOutputs (sources x) parts) (sym of_cells) outputs in
+      let same : map (domain_by (sources c.cells) parts) feeds ≡ domains = ap (λ x. map (domain_by (sources x) parts) feeds) of_cells ∙ sym domains_are in
+      subst (λ xs. HasDomain c w d ↔ (get_or xs w None ≡ Some d)) same (domains_told c feeds parts clean formed are own long w d);
   pins_are = λ w. subst (λ x. (get_or marks w false ≡ true) ↔ In (map (λ p. p.wire) (pins x)) w) (sym of_cells) (marks_are (pins cells) (length feeds) marks marks_made within w);
 }

@@ -79,9 +79,9 @@ module _ (c : Circuit) (feeds : List (Option ℕ)) (tells : Tells c feeds) where
   pub fed_told : (i : ℕ) (p : Pin) → slice_get (pins c.cells) i ≡ Some p → Fed c.routing p.wire ↔ ((s : Source) × (feed_source c.cells feeds i ≡ Some s))
   fed_told i p at = (
     (λ fed.
-    let s = named c feeds tells.clean tells.are p fed.0 (get_in (pins c.cells) i p at) fed.1 in
-    let f : Feeds c.routing s.0.out p.wire = subst (λ o. Feeds c.routing o p.wire) (sym s.1.1) fed.1 in
-    (s.0, (connects_told i p s.0 at).0 (record { source = s.1.0; pin = get_in (pins c.cells) i p at; feeds = f }))),
+        let s = named c feeds tells.clean tells.are p fed.0 (get_in (pins c.cells) i p at) fed.1 in
+        let f : Feeds c.routing s.0.out p.wire = subst (λ o. Feeds c.routing o p.wire) (sym s.1.1) fed.1 in
+        (s.0, (connects_told i p s.0 at).0 (record { source = s.1.0; pin = get_in (pins c.cells) i p at; feeds = f }))),
     (λ h. (h.0.out, ((connects_told i p h.0 at).1 h.1).feeds)),
   )
 
@@ -89,8 +89,8 @@ module _ (c : Circuit) (feeds : List (Option ℕ)) (tells : Tells c feeds) where
   domain_told i p d at = (
     (λ has. (has.source, ((connects_told i p has.source at).0 (record { source = has.listed; pin = get_in (pins c.cells) i p at; feeds = has.feeds }), has.domain))),
     (λ h.
-    let connects = (connects_told i p h.0 at).1 h.1.0 in
-    record { source = h.0; listed = connects.source; feeds = connects.feeds; only = λ o f. one_feed c.routing tells.clean o h.0.out p.wire f connects.feeds; domain = h.1.1 }),
+        let connects = (connects_told i p h.0 at).1 h.1.0 in
+        record { source = h.0; listed = connects.source; feeds = connects.feeds; only = λ o f. one_feed c.routing tells.clean o h.0.out p.wire f connects.feeds; domain = h.1.1 }),
   )
 
 -- ---- the list of connections

@@ -1,5 +1,5 @@
 -- Lists that are compared element by element.
-use Rattle.std.proofs.Common.{◌≡◌, ◌≢◌, ◌↔◌, ℕ, ◌+◌, ◌<◌, ◌≤◌, List, length, get_or, take, Option, None, sym, ap, ◌∙◌, arith}
+use Rattle.std.proofs.Common.{◌≡◌, ℕ, ◌+◌, ◌<◌, ◌≤◌, List, length, get_or, take, Option, None, sym, ap, ◌∙◌, arith}
 use Rattle.std.proofs.lemmas.List.{take_more_same, take_all}
 
 pub one_more_same : (xs ys : List (Option ℕ)) (i : ℕ) → i < length xs → length xs ≡ length ys → take i xs ≡ take i ys → get_or xs i None ≡ get_or ys i None → take (i + 1) xs ≡ take (i + 1) ys

@@ -1,5 +1,5 @@
 -- The least pin that an unnamed cell feeds.
-use Rattle.std.proofs.Common.{◌≡◌, ◌≢◌, ℕ, zero, suc, ◌+◌, ◌<◌, ◌≤◌, List, [], ◌∷◌, length, get_or, map, Option, None, Some, ◌⊎◌, inl, inr, refl, sym, ap, subst, ◌∙◌, arith}
+use Rattle.std.proofs.Common.{◌≡◌, ◌≢◌, ℕ, zero, suc, ◌+◌, ◌<◌, List, [], ◌∷◌, length, get_or, map, Option, None, Some, ◌⊎◌, inl, inr, refl, sym, ap, subst, ◌∙◌, arith}
 use Rattle.std.specs.Prelude.{slice_get}
 use Rattle.std.specs.Option.{option_map}
 use Rattle.std.specs.declared.cmp.Ordering.{Ordering}
@@ -12,7 +12,7 @@ use Rattle.std.proofs.lemmas.Option.{slice_get-map, slice_get_read, slice_get_wi
 use Rattle.words.specs.Members.{In}
 use Rattle.links.specs.Links.{IsClean}
 use Rattle.links.proofs.Members.{same_number}
-use Rattle.circuit.specs.Parts.{PartRef, Source, sources}
+use Rattle.circuit.specs.Parts.{sources}
 use Rattle.circuit.specs.Pins.{Pin, PinRef, pins}
 use Rattle.circuit.specs.Cells.{Cells}
 use Rattle.circuit.specs.Circuits.{Circuit}
@@ -75,7 +75,7 @@ module _ (unnamed : ℕ → Option ℕ) (all : List Pin) (n : ℕ) (p : Pin) (at
           let same : p ≡ q = some_pin p q (sym at ∙ (ap (slice_get all) (sym e) ∙ there)) in
           let first : l ≡ so_far.pin = some_pin l so_far.pin (sym is ∙ so_far.numbered) in
           subst (λ (x : Pin). pin_cmp so_far.pin.ref x.ref ≢ Greater) same (subst (λ (x : Pin). pin_cmp x.ref p.ref ≢ Greater) first before)
-        )
+          )
     ];
   }
 
@@ -116,7 +116,7 @@ module _ (unnamed : ℕ → Option ℕ) (all : List Pin) (n : ℕ) (p : Pin) (at
           let lower : pin_cmp p.ref l.ref ≡ Less = pin_total.antisymm p.ref l.ref ∙ ap ordering_reverse before in
           let after : pin_cmp l.ref q.ref ≢ Greater = subst (λ (x : Pin). pin_cmp x.ref q.ref ≢ Greater) (sym first) (so_far.least i o q k there h) in
           λ greater. after (which_less p.ref l.ref q.ref (pin_cmp l.ref q.ref) lower refl greater)
-        )
+          )
       | inr e ↦ subst (λ (x : Pin). pin_cmp p.ref x.ref ≢ Greater) (some_pin p q (sym at ∙ (ap (slice_get all) (sym e) ∙ there))) (itself p.ref)
     ];
   }
@@ -132,9 +132,9 @@ module _ (c : Circuit) (feeds parts : List (Option ℕ)) (clean : IsClean c.rout
   all_named none v is = record {
     long = ap (λ xs. length xs) is ∙ length-map (pins c.cells) (λ p. part_at feeds parts p.wire);
     each = λ i p feed at there.
-    let made : Some feed ≡ Some (part_at feeds parts p.wire) = sym there ∙ (ap (λ xs. slice_get xs i) is ∙ (slice_get-map (λ (q : Pin). part_at feeds parts q.wire) (pins c.cells) i ∙ ap (option_map (λ (q : Pin). part_at feeds parts q.wire)) at)) in
-    let same : feed ≡ part_at feeds parts p.wire = cc in
-    subst (IsPinFeed c p) (sym same) (named_pin c feeds parts are outputs long p (none i p (slice_get_within (pins c.cells) i p at) at));
+        let made : Some feed ≡ Some (part_at feeds parts p.wire) = sym there ∙ (ap (λ xs. slice_get xs i) is ∙ (slice_get-map (λ (q : Pin). part_at feeds parts q.wire) (pins c.cells) i ∙ ap (option_map (λ (q : Pin). part_at feeds parts q.wire)) at)) in
+        let same : feed ≡ part_at feeds parts p.wire = cc in
+        subst (IsPinFeed c p) (sym same) (named_pin c feeds parts are outputs long p (none i p (slice_get_within (pins c.cells) i p at) at));
   }
 
   fed_unnamed : (p : Pin) (o : ℕ) → In (pins c.cells) p → unnamed p.wire ≡ Some o → IsFedUnnamed c p.ref o

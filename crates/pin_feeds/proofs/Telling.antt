@@ -1,14 +1,12 @@
 -- What the feed of a wire and the parts of outputs tell of a pin.
-use Rattle.std.proofs.Common.{◌≡◌, ◌≢◌, ℕ, ◌<◌, List, length, get_or, map, Option, None, Some, refl, sym, ap, subst, ◌∙◌, arith}
-use Rattle.std.specs.Prelude.{slice_get, is_some, if◌then◌else◌}
-use Rattle.std.specs.Option.{option_and_then, option_map}
-use Rattle.std.proofs.lemmas.List.{length-map}
-use Rattle.std.proofs.lemmas.Option.{slice_get-map}
+use Rattle.std.proofs.Common.{◌≡◌, ◌≢◌, ℕ, ◌<◌, List, length, get_or, Option, None, Some, refl, sym, subst, ◌∙◌}
+use Rattle.std.specs.Prelude.{is_some, if◌then◌else◌}
+use Rattle.std.specs.Option.{option_and_then}
 use Rattle.words.specs.Members.{In}
-use Rattle.links.specs.Links.{Fed, Feeds, IsClean}
+use Rattle.links.specs.Links.{Feeds, IsClean}
 use Rattle.links.proofs.Feeds.{one_feed}
 use Rattle.circuit.specs.Parts.{Source, sources}
-use Rattle.circuit.specs.Pins.{Pin, pins}
+use Rattle.circuit.specs.Pins.{Pin}
 use Rattle.circuit.specs.Circuits.{Circuit}
 use Rattle.fabric_laws.proofs.Numbered.{get_in}
 use Rattle.wire_feeds.specs.Rows.{AreFeeds}

@@ -1,7 +1,7 @@
 -- Parts that are written at the wires of their outputs.
-use Rattle.std.proofs.Common.{◌≡◌, ◌≢◌, ℕ, zero, suc, ◌+◌, ◌<◌, ◌≤◌, List, [], ◌∷◌, length, get_or, drop, set, replicate, Option, None, Some, ◌⊎◌, inl, inr, refl, sym, ap, subst, ◌∙◌, add-one, arith}
+use Rattle.std.proofs.Common.{◌≡◌, ℕ, zero, suc, ◌+◌, ◌<◌, ◌≤◌, List, [], ◌∷◌, length, get_or, drop, replicate, Option, None, Some, inl, inr, refl, sym, ap, subst, ◌∙◌, add-one, arith}
 use Rattle.std.specs.Prelude.{slice_get, slice_set}
-use Rattle.std.proofs.lemmas.List.{drop_more, drop_all, length-replicate, length-set, get_or-set_same, get_or-set_other, get_or-replicate, get_or_past}
+use Rattle.std.proofs.lemmas.List.{drop_more, drop_all, length-replicate, length-set, get_or-set_same, get_or-set_other, get_or-replicate}
 use Rattle.words.specs.Members.{In}
 use Rattle.links.proofs.Members.{same_number}
 use Rattle.circuit.specs.Parts.{Source}
@@ -49,7 +49,7 @@ known_with all parts n s at known o k h = elim (same_number o s.out) [
       let same : get_or (slice_set parts s.out (Some n)) s.out None ≡ Some n = get_or-set_same parts s.out (Some n) None (subst (λ x. x < length parts) e long) in
       let number : n ≡ k = some_of k n (sym same ∙ subst (λ x. get_or (slice_set parts s.out (Some n)) x None ≡ Some k) e h) in
       (s, (subst (λ x. slice_get all x ≡ Some s) number at, sym e))
-    )
+      )
   | inr other ↦ known o k (sym (get_or-set_other parts s.out o (Some n) None other) ∙ h)
 ]
 
@@ -80,7 +80,7 @@ written parts n (t ∷ ss) s i below h = elim i [
       let set_long : t.out < length (slice_set parts t.out (Some n)) = subst (λ l. t.out < l) (sym (length-set parts t.out (Some n))) long in
       kept_all (slice_set parts t.out (Some n)) (suc n) ss t.out (λ none. some_none n (sym (get_or-set_same parts t.out (Some n) None long) ∙ none)) set_long
       (subst (λ (x : Source). get_or (outputs_from (slice_set parts t.out (Some n)) (suc n) ss) x.out None ≡ None) (sym e) h)
-    )
+      )
   | inr j ↦ written (slice_set parts t.out (Some n)) (suc n) ss s j (subst (λ l. s.out < l) (sym (length-set parts t.out (Some n))) below) h
 ]
 

@@ -8,6 +8,12 @@ use Rattle.circuit.specs.Pins.{Pin, pins}
 use Rattle.circuit.specs.Circuits.{Circuit, Connects, IsRead, Connection, IsConnection}
 use Rattle.circuit.specs.Domains.{HasDomain}
 use Rattle.circuit.specs.WellFormed.{IsWellFormed}
+use Rattle.fabric.specs.Wires.{Wire}
+use Rattle.fabric.specs.Graph.{Graph}
+use Rattle.answers.specs.Refusals.{UnnamedSource}
+use Rattle.design_checks.specs.PinChecks.{SourceUnnamed}
+use Rattle.pin_feeds.specs.declared.errors.UnnamedFeed.{UnnamedFeed}
+use Rattle.pin_feeds.specs.Unnamed.{IsUnnamedFeed}
 use Rattle.pin_feeds.specs.PinFeeds.{ArePinFeeds, feed_source, connections_with}
 
 -- The list is that of a circuit with a clean routing and well-formed cells.
@@ -46,3 +52,7 @@ FeedsAreNamed = (c : Circuit) (feeds : List (Option ℕ)) → IsClean c.routing 
 abbrev pub ConnectionsAreListed : Type 0
 ConnectionsAreListed = (c : Circuit) (feeds : List (Option ℕ)) → Tells c feeds
     → (x : Connection) → In (connections_with c.cells feeds) x ↔ IsConnection c x
+
+-- What an error names is what the check of a design refuses, where the wire with the number of the feed has this name in the graph.
+abbrev pub UnnamedIsRefused : Type 0
+UnnamedIsRefused = (g : Graph) (c : Circuit) (u : UnnamedFeed) (named : IsUnnamedFeed c u) (wire : Wire) → slice_get g.wires u.feed ≡ Some wire → SourceUnnamed g c (UnnamedSource named.pin.ref wire)

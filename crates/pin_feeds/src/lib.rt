@@ -9,5 +9,7 @@ mod unnamed;
 
 pub use errors::{FeedError, UnnamedFeed};
 pub use feeds::{pin_feeds, same};
-pub use laws::{connections_are_listed, feeds_are_named, feeds_tell_connections};
+pub use laws::{
+    connections_are_listed, feeds_are_named, feeds_tell_connections, unnamed_feed_is_refused,
+};
 pub use outputs::{part_with, parts_of_outputs};

@@ -1,8 +1,6 @@
-use Rattle.std.proofs.Common.{◌≡◌, sym, ap, subst, ◌∙◌}
-use Rattle.std.specs.Prelude.{slice_get, Some}
+use Rattle.std.proofs.Common.{◌≡◌, sym, ap, ◌∙◌}
+use Rattle.std.specs.Prelude.{slice_get}
 use Rattle.std.specs.declared.cmp.Ordering.TheVariants.{Less, Equal, Greater}
-use Rattle.circuit.specs.Pins.{Pin}
-use Rattle.attempts.specs.PinOrder.{pin_cmp}
 use Rattle.pin_feeds.specs.Outputs.{unnamed_at}
 use Rattle.pin_feeds.proofs.Least.{lesser_begins, lesser_moves, lesser_stays}
 use Rattle.pin_feeds.proofs.unnamed.lesser.Goals as goal
