@@ -88,6 +88,7 @@ impl CellOutputs {
         ensures wires { IfOk result (λ o. o.wires ≡ wires) }
         ensures once { IfOk result (λ o. (w : ℕ) → count_by (nat_eq w) outputs.now < 2) }
         ensures twice { (w : ℕ) → result ≡ Err (OutputsError.Twice w) → IsFirstTwice outputs.now w }
+        ensures known { (w : ℕ) → result ≡ Err (OutputsError.Twice w) → w < wires }
     {
         if outputs.len() >= 4_294_967_296 {
             return Err(OutputsError::Memory);

@@ -1,5 +1,5 @@
 -- The lists of a graph by numbers.
-use Rattle.std.proofs.Common.{◌≡◌, ℕ, ◌<◌, List, [], ◌∷◌, inl, inr, map, filter_map, length, Option, None, Some, option_map, option_and_then, refl, sym, ap, subst, ◌∙◌}
+use Rattle.std.proofs.Common.{◌≡◌, ℕ, List, [], ◌∷◌, inl, inr, map, filter_map, length, Option, None, Some, option_map, option_and_then, refl, sym, ap, subst, ◌∙◌}
 use Rattle.std.specs.Prelude.{◌==◌, slice_get}
 use Rattle.std.proofs.lemmas.List.{length-map}
 use Rattle.std.proofs.lemmas.Option.{slice_get-map}
@@ -15,9 +15,8 @@ use Rattle.graph_lists.specs.Places.{places}
 use Rattle.place_rows.proofs.RowsBy.{places-map}
 use Rattle.row_laws.proofs.ArcRows.{arcs_by, muxes_by}
 use Rattle.mux_rows.specs.MuxTable.{MuxNumbers}
-use Rattle.graph_numbers.specs.Numbers.{mux_numbers}
 use Rattle.graph_numbers.specs.StandFor.{mux_at, mux_of, arc_of, arc_numbers}
-use Rattle.graph_numbers.specs.Graphs.{GraphNumbers, graph_with, muxes_with, AreGraphNumbers}
+use Rattle.graph_numbers.specs.Graphs.{GraphNumbers, graph_with, AreGraphNumbers}
 use Rattle.graph_numbers.proofs.Numbered.{muxes_stand, arcs_stand}
 use Rattle.graph_numbers.proofs.Sorted.{numbers_are}
 use Rattle.graph_numbers.proofs.Whole.{whole}

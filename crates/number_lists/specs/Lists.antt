@@ -1,5 +1,5 @@
 -- The lists of a graph, and the numbers that stand for it. (Our own.)
-use Rattle.std.specs.Prelude.{◌≡◌, ◌==◌, ℕ, List, map, length, Some}
+use Rattle.std.specs.Prelude.{◌≡◌, ◌==◌, ℕ, List, map, Some}
 use Rattle.graph_lists.specs.Places.{places}
 use Rattle.graph_lists.specs.ArcLists.{numbers_of}
 use Rattle.fabric.specs.Device.{Device}

@@ -1,9 +1,7 @@
 -- What is refused of a graph, from counts.
-use Rattle.std.proofs.Common.{◌≡◌, ◌≢◌, ℕ, ◌<◌, ◌≤◌, ◌↔◌, List, map, flat_map, length, count_by, nat_eq, nat_cmp, slice_get, Option, None, Some, refl, sym, ap, subst, ◌∙◌, inl, inr, arith}
-use Rattle.std.specs.Prelude.{nat_lt, if◌then◌else◌}
-use Rattle.std.specs.Ordering.{ordering_then}
+use Rattle.std.proofs.Common.{◌≡◌, ◌≢◌, ℕ, ◌<◌, ◌≤◌, List, map, flat_map, length, count_by, nat_eq, nat_cmp, slice_get, Option, None, Some, refl, sym, ap, subst, ◌∙◌, inl, inr, arith}
 use Rattle.std.specs.declared.cmp.Ordering.TheVariants.{Less, Equal, Greater}
-use Rattle.std.proofs.lemmas.Bool.{cases_lt, eq-eqb, le-ltb, lt-ltb}
+use Rattle.std.proofs.lemmas.Bool.{cases_lt, le-ltb, lt-ltb}
 use Rattle.std.proofs.lemmas.List.{length-map}
 use Rattle.words.specs.Members.{In}
 use Rattle.words.specs.Firsts.{or_else}
@@ -13,7 +11,7 @@ use Rattle.fabric.specs.InOrder.{InOrderOnce}
 use Rattle.fabric.specs.Wires.{Wire, wire_cmp}
 use Rattle.fabric.specs.Device.{Device}
 use Rattle.fabric.specs.TileWires.{tile_wires}
-use Rattle.fabric.specs.Graph.{Graph, GraphArc, GraphMux}
+use Rattle.fabric.specs.Graph.{Graph, GraphArc}
 use Rattle.fabric.specs.GraphOf.{IsGraph, arc_cmp, arcs_of, muxes_of, outputs_of}
 use Rattle.fabric_laws.proofs.Orders.{wire_total}
 use Rattle.fabric_laws.proofs.Sorted.{one_list}
@@ -28,9 +26,8 @@ use Rattle.graph_numbers.proofs.Numbered.{muxes_stand, arcs_stand}
 use Rattle.graph_numbers.proofs.Whole.{whole}
 use Rattle.number_lists.proofs.Views.{kept, arcs_counted, muxes_counted}
 use Rattle.fabric_laws.proofs.Graphs.{one_graph}
-use Rattle.answers.specs.Refusals.{Refusal, TooLarge, OverlapShape}
-use Rattle.design_checks.specs.Checks.{IsLeast}
-use Rattle.design_checks.specs.GraphChecks.{Overlap, overlap, IsOutputTwice, graph_name, graph_size_refusal, size_refusal}
+use Rattle.answers.specs.Refusals.{Refusal, TooLarge}
+use Rattle.design_checks.specs.GraphChecks.{Overlap, overlap, graph_name, graph_size_refusal, size_refusal}
 use Rattle.link_rows.specs.Kept.{IsFirstTwice}
 use Rattle.size_laws.specs.Sizes.{AreWiresOf, IsTooLarge, IsSmall, OverlapsAt, OverlapsNowhere}
 
