@@ -11,4 +11,4 @@ mod tile_names;
 pub use databases::Databases;
 pub use device::Device;
 pub use names::LentNames;
-pub use tile_names::names_in;
+pub use tile_names::{names_in, outputs_in};

@@ -52,6 +52,19 @@ fn add_inputs<'a>(
     add_pads_inputs(names, &tile.kind, profile.pads.as_slice())
 }
 
+/// The names of the outputs of the kinds at sites of a tile, which hang on its type alone.
+pub fn outputs_in<'a>(
+    alloc: Global,
+    device: &Device<'a>,
+    tile: &Tile,
+) -> Result<LentNames<'a>, AllocError>
+    ensures { IfOk result (λ names. names ≡ output_names device.now tile.now) }
+{
+    let mut names = LentNames::new(alloc);
+    add_outputs(&mut names, device, tile)?;
+    Ok(names)
+}
+
 /// The names that count in a tile, which hang on its type alone.
 pub fn names_in<'a>(
     alloc: Global,

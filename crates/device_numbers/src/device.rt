@@ -1,7 +1,9 @@
 //! Devices whose wires have numbers.
 
 ghost use Rattle.std.specs.Prelude.{◌≡◌, IfOk, IsErrOf};
-ghost use Rattle.device_wires.specs.Named.{NamesTooMany};
+ghost use Rattle.device_wires.specs.Named.{NamesTooMany, named_wires};
+ghost use Rattle.fabric.specs.InOrder.{InOrderOnce};
+ghost use Rattle.fabric.specs.Wires.{wire_cmp};
 
 use device_names::Device;
 use device_wires::{Wires, WiresError, wires_with};
@@ -51,9 +53,10 @@ impl<'a> DeviceNumbers<'a> {
         })
     }
 
-    /// The wires.
+    /// The wires: those that the device names, in wire order, each once.
     pub fn wires(&self) -> &Wires
-        ensures { result.now ≡ self.now.wires }
+        ensures wires { result.now ≡ self.now.wires }
+        ensures named { InOrderOnce wire_cmp (named_wires self.now.device) self.now.wires }
     {
         &self.wires
     }

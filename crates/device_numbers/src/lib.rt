@@ -4,6 +4,7 @@
 mod arcs;
 mod device;
 mod errors;
+mod lent;
 mod muxes;
 
 pub use device::DeviceNumbers;

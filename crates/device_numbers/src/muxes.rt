@@ -37,8 +37,8 @@ fn add_tile(
 }
 
 impl<'a> DeviceNumbers<'a> {
-    // The wires of the slots of a tile.
-    pub(crate) fn row(&self, tile: TileId) -> &[Option<WireId>]
+    /// The wires of the slots of a tile, in order of the slots.
+    pub fn row(&self, tile: TileId) -> &[Option<WireId>]
         requires { tile < length self.now.device.grid.tiles }
         ensures { result.now ≡ row_at self.now tile }
     {

@@ -1,5 +1,5 @@
 -- The numbers of muxes and arcs are below the counts of what they are numbers of, and arcs stand in mux order.
-use Rattle.std.proofs.Common.{◌≡◌, ℕ, ◌<◌, List, [], ◌∷◌, length, map, flat_map, Option, None, Some, option_map, option_and_then, refl, sym, ap, subst, ◌∙◌}
+use Rattle.std.proofs.Common.{◌≡◌, ℕ, ◌<◌, ◌≤◌, arith, List, [], ◌∷◌, length, map, flat_map, Option, None, Some, option_map, option_and_then, refl, sym, ap, subst, ◌∙◌}
 use Rattle.std.specs.Prelude.{slice_get}
 use Rattle.std.specs.Option.{option_map_or}
 use Rattle.std.specs.List.{enumerate_from}
@@ -7,7 +7,7 @@ use Rattle.words.specs.Members.{In}
 use Rattle.links.proofs.Members.{of_flat_map}
 use Rattle.records.specs.Database.{Arc, Mux}
 use Rattle.fabric.specs.Wires.{Wire, same_wire}
-use Rattle.fabric.specs.InOrder.{IsRising}
+use Rattle.fabric.specs.InOrder.{InOrderOnce, IsRising}
 use Rattle.fabric.specs.Device.{database_at}
 use Rattle.fabric.specs.Graph.{GraphMux, GraphArc}
 use Rattle.fabric.specs.GraphOf.{number_of, number_in, muxes_of, arcs_of}
@@ -15,7 +15,9 @@ use Rattle.fabric.specs.TileWires.{wire_in}
 use Rattle.fabric_laws.proofs.Graphs.{some_same}
 use Rattle.fabric_laws.proofs.Members.{in_filter_map_from}
 use Rattle.fabric_laws.proofs.Numbered.{at_position, entry_is, get_in}
-use Rattle.graph_lists.specs.ArcLists.{ArcNumbers, numbers_of, mux_order}
+use Rattle.graph_lists.specs.ArcLists.{ArcNumbers, numbers_of, numbers_cmp, mux_order}
+use Rattle.graph_lists.proofs.Fewer.{not_more}
+use Rattle.arc_rows.proofs.Tied.{numbers_tied}
 use Rattle.row_laws.proofs.MuxOrder.{in_mux_order}
 use Rattle.mux_rows.specs.MuxTable as muxes
 use Rattle.mux_rows.specs.MuxTable.{MuxNumbers}
@@ -99,3 +101,7 @@ module _ (n : Numbered) where
 
   pub arcs_rise : IsRising mux_order whole
   arcs_rise = subst (IsRising mux_order) (their_numbers whole (arcs_of n.device n.wires) (arcs_stand n.device n.wires)) (in_mux_order n.device n.wires)
+
+-- in order, each once, arcs are no more than they were
+pub no_more_arcs : (named sorted : List ArcNumbers) (most : ℕ) → InOrderOnce numbers_cmp named sorted → length named ≤ most → length sorted ≤ most
+no_more_arcs named sorted most are few = (let l = not_more numbers_cmp numbers_tied named sorted are in omega arith)

@@ -43,7 +43,8 @@ fn arc_rows_of(
     requires muxes { muxes.now.muxes ≡ mux_numbers numbers.now.device numbers.now.wires }
     requires few { length muxes.now.muxes ≤ most_muxes }
     ensures arcs { IfOk result (λ rows. InOrderOnce numbers_cmp (arc_numbers numbers.now.device numbers.now.wires (muxes_of numbers.now.device numbers.now.wires)) rows.arcs) }
-    ensures wires { IfOk result (λ rows. rows.wires ≡ length numbers.now.wires) }
+    ensures counts { IfOk result (λ rows. (rows.wires ≡ length numbers.now.wires) × (rows.muxes ≡ length muxes.now.muxes)) }
+    ensures few { IfOk result (λ rows. length rows.arcs ≤ most_arcs) }
     ensures too_many { IsErrOf result CountError.TooMany
         → most_arcs < length (arc_numbers numbers.now.device numbers.now.wires (muxes_of numbers.now.device numbers.now.wires)) }
 {
@@ -52,11 +53,14 @@ fn arc_rows_of(
     Ok(rows)
 }
 
-/// The muxes and arcs of a device in rows; `Muxes` and `Arcs` exactly where they pass their limits, in this order.
+/// The muxes and arcs of a device in rows, by as many tiles, wires and muxes as there are; `Muxes` and `Arcs` exactly where they pass their limits, in this order.
 pub fn rows_of(alloc: Global, numbers: &DeviceNumbers<'_>) -> Result<GraphRows, RowsError>
-    ensures muxes { IfOk result (λ rows. rows.muxes.muxes ≡ mux_numbers numbers.now.device numbers.now.wires) }
+    ensures muxes { IfOk result (λ rows. rows.muxes ≡ record { tiles = length numbers.now.device.grid.tiles; wires = length numbers.now.wires; muxes = mux_numbers numbers.now.device numbers.now.wires }) }
     ensures arcs { IfOk result (λ rows. InOrderOnce numbers_cmp (arc_numbers numbers.now.device numbers.now.wires (muxes_of numbers.now.device numbers.now.wires)) rows.arcs.arcs) }
+    ensures counts { IfOk result (λ rows. (rows.arcs.wires ≡ length numbers.now.wires) × (rows.arcs.muxes ≡ length rows.muxes.muxes)) }
+    ensures few { IfOk result (λ rows. (length rows.muxes.muxes ≤ most_muxes) × (length rows.arcs.arcs ≤ most_arcs)) }
     ensures many_muxes { IsErrOf result RowsError.Muxes → most_muxes < length (mux_numbers numbers.now.device numbers.now.wires) }
+    ensures few_muxes { IsErrOf result RowsError.Arcs → length (mux_numbers numbers.now.device numbers.now.wires) ≤ most_muxes }
     ensures many_arcs { IsErrOf result RowsError.Arcs
         → most_arcs < length (arc_numbers numbers.now.device numbers.now.wires (muxes_of numbers.now.device numbers.now.wires)) }
 {

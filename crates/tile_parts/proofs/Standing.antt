@@ -47,7 +47,7 @@ module _ (device : Device) (wires : List Wire) (tile : Tile) where
   abbrev names : List (List ℕ)
   names = slot_names device tile
 
-  no_wire : (name : List ℕ) → is_ignored rules name ≡ true → wire name ≡ None
+  pub no_wire : (name : List ℕ) → is_ignored rules name ≡ true → wire name ≡ None
   no_wire name e = ap (option_and_then (wire_number wires)) (ignored_in rules name tile.place e)
 
   in_names : (mux : Mux) (name : List ℕ) → In (database_at device.types tile).muxes mux → In (mux_names rules mux) name → In names name

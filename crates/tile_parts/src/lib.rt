@@ -9,4 +9,4 @@ mod slots;
 pub use arcs::add_arcs;
 pub use laws::slots_give_the_tile;
 pub use muxes::add_muxes;
-pub use slots::{MuxSlots, slots_of_muxes};
+pub use slots::{MuxSlots, slots_of_muxes, wire_of};

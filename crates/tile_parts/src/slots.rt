@@ -66,8 +66,8 @@ pub fn slots_of_muxes(
     Ok(slots)
 }
 
-/// The wire of a slot in the row of a tile.
-pub(crate) fn wire_of(row: &[Option<WireId>], slot: Option<SlotId>) -> Option<WireId>
+/// The wire of a slot in the row of a tile; `None` where the slot has none or isn't there.
+pub fn wire_of(row: &[Option<WireId>], slot: Option<SlotId>) -> Option<WireId>
     ensures { result ≡ wire_at row.now slot }
 {
     *row.get(slot?.to_u32() as usize)?

@@ -1,0 +1,3 @@
+mod OfTypes
+pub mod Standing
+pub mod Tiles
