@@ -1,0 +1,13 @@
+use Rattle.std.proofs.Common.{◌≡◌, drop, map, bytes_eq}
+use Rattle.std.specs.Prelude.{filter, find}
+use Rattle.records.specs.Database.{EnumOption}
+use Rattle.records.specs.Grid.{origin_of}
+use Rattle.cram_image.specs.Image.{bits}
+use Rattle.setting_values.specs.Tied.{fits_with}
+use Rattle.setting_values.proofs.enums.tied_with.Given as goal
+
+-- the first of those that are left is the first of all
+abbrev pub invariant-loop-option : goal.invariant-loop-option
+invariant-loop-option l =
+    find (bytes_eq l.value) (map (λ (o : EnumOption). o.value) (filter (fits_with (bits l.image) (origin_of l.tile) l.longest) (drop l.option-index l.options)))
+    ≡ find (bytes_eq l.value) (map (λ (o : EnumOption). o.value) (filter (fits_with (bits l.image) (origin_of l.tile) l.longest) l.options))
