@@ -1,3 +1,4 @@
 pub mod Names
 pub mod Ordered
 pub mod Pairs
+pub mod Sides

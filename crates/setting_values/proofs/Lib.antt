@@ -1,1 +1,2 @@
+mod WordBits
 pub mod Tied

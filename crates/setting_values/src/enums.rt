@@ -128,6 +128,7 @@ fn tied_value<'a>(
 
 /// The value of an enum at a tile: that of the option that fits with the most bits, and on a tie the default's; `None`
 /// exactly where none fits, or the default isn't among those that are tied.
+#[tactic(auto, using(crate::proofs::Tied::value_is))]
 pub fn enum_value<'a>(image: &Image, tile: &Tile, setting: &'a EnumSetting) -> Option<&'a Name>
     ensures { option_copied result ≡ enum_value_of (bits image.now) (origin_of tile.now) setting.now }
 {

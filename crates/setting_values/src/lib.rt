@@ -3,9 +3,11 @@
 #![tactic(auto)]
 
 mod enums;
+mod forms;
 mod values;
 mod word_bits;
 
 pub use enums::enum_value;
+pub use forms::same_forms;
 pub use values::value_at;
 pub use word_bits::{word_digits, word_number};

@@ -1,0 +1,13 @@
+//! The settings of cells as they are read in an image: what a choice takes, and the first setting of a cell whose value isn't
+//! modelled.
+#![tactic(auto)]
+
+mod choices;
+mod errors;
+mod faults;
+mod lists;
+
+pub use choices::{choice_value, take_at};
+pub use errors::CellError;
+pub use faults::{choice_fault, pad_fault};
+pub use lists::slice_fault;
