@@ -1,19 +1,24 @@
 -- The bits of a word, from the highest down.
-use Rattle.std.proofs.Common.{◌≡◌, ℕ, suc, zero, ◌+◌, ◌*◌, ◌^◌, ◌<◌, ◌≤◌, Bool, true, false, List, [], ◌∷◌, ◌++◌, length, map, get_or, drop, flat_map, reverse, refl, sym, ap, ap₂, ◌∙◌, arith}
+use Rattle.std.proofs.Common.{◌≡◌, ℕ, suc, zero, ◌+◌, ◌*◌, ◌^◌, ◌<◌, ◌≤◌, Bool, true, false, List, [], ◌∷◌, ◌++◌, length, map, get_or, drop, length-drop, flat_map, reverse, refl, sym, ap, ap₂, ◌∙◌, arith}
 use Rattle.std.specs.Prelude.{codes, if◌then◌else◌}
 use Rattle.std.proofs.lemmas.Grind.{flat_map-append}
-use Rattle.std.proofs.lemmas.List.{append-nil, reverse-append}
+use Rattle.std.proofs.lemmas.List.{append-nil, length-map, reverse-append}
 use Rattle.circuit.specs.Worlds.{address}
 use Rattle.cells.specs.Readings.{digits_of}
 
--- an address of some bits is below the power of 2
-pub address_small : (bits : List Bool) → address bits < 2 ^ length bits
-address_small [] = omega arith
-address_small (b ∷ bs) = go b (address_small bs)
+-- the address of few bits is small
+address_below : (bits : List Bool) (n : ℕ) → length bits ≤ n → address bits < 2 ^ n
+address_below [] zero l = omega arith
+address_below [] (suc n) l = let h = address_below [] n (let k : 0 ≤ n = omega arith in k) in grind arith
+address_below (b ∷ bs) zero l = absurd (let no : ⊥ = omega arith in no)
+address_below (b ∷ bs) (suc n) l = go b (address_below bs n (let k : length bs ≤ n = omega arith in k))
   where
-    go : (b : Bool) → address bs < 2 ^ length bs → ((if b then 1 else 0) + 2 * address bs) < 2 ^ suc (length bs)
+    go : (b : Bool) → address bs < 2 ^ n → ((if b then 1 else 0) + 2 * address bs) < 2 ^ suc n
     go true h = grind arith
     go false h = grind arith
+
+pub number_small : {X : Type 0} (test : X → Bool) (xs : List X) (left : ℕ) → length xs ≤ 16 → 0 < left → address (map test (drop left xs)) < 32768
+number_small test xs left l p = address_below (map test (drop left xs)) 15 (simp (length-map, length-drop) (omega arith))
 
 lowest_last : (b : Bool) (bs : List Bool) → digits_of (b ∷ bs) ≡ digits_of bs ++ (if b then codes "1" else codes "0")
 lowest_last b bs =

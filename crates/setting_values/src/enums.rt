@@ -1,6 +1,6 @@
 //! The value of an enum.
 
-ghost use Rattle.std.specs.Prelude.{◌≡◌, ◌<◌, ◌≤◌, ◌&&◌, filter, find, length, map, max, nat_lt, if◌then◌else◌};
+ghost use Rattle.std.specs.Prelude.{◌≡◌, filter, find, length, map, max, option_map, if◌then◌else◌};
 ghost use Rattle.std.specs.Option.{option_copied};
 ghost use Rattle.std.specs.Str.{bytes_eq};
 ghost use Rattle.patterns.specs.Fits.{fits as fits_of};
@@ -107,23 +107,38 @@ fn tied_with<'a>(
     None
 }
 
+// The value of the first option that fits with at least so many bits.
+fn first_value<'a>(
+    image: &Image,
+    tile: &Tile,
+    longest: usize,
+    options: &'a [EnumOption],
+) -> Option<&'a Name>
+    ensures { option_copied result
+        ≡ option_map (λ (o : Record). o.value) (find (fits_with_of (bits image.now) (origin_of tile.now) longest) options.now) }
+{
+    let first = first_tied(image, tile, longest, options)?;
+    Some(&first.value)
+}
+
 // The value of the options that are tied: the only one's, or the default where it is among them.
 fn tied_value<'a>(
     image: &Image,
     tile: &Tile,
     longest: usize,
-    setting: &'a EnumSetting,
+    options: &'a [EnumOption],
+    default: Option<&Name>,
 ) -> Option<&'a Name>
     ensures { option_copied result
-        ≡ value_of_tied (filter (fits_with_of (bits image.now) (origin_of tile.now) longest) setting.now.options) setting.now.default }
+        ≡ value_of_tied (filter (fits_with_of (bits image.now) (origin_of tile.now) longest) options.now) (option_copied default.entry) }
 {
-    let options = setting.options.as_slice();
-    if tied_count(image, tile, longest, options) > 1 {
-        let default = setting.default.as_ref()?;
-        return tied_with(image, tile, longest, options, default);
+    if tied_count(image, tile, longest, options) <= 1 {
+        return first_value(image, tile, longest, options);
     }
-    let first = first_tied(image, tile, longest, options)?;
-    Some(&first.value)
+    match default {
+        Some(default) => tied_with(image, tile, longest, options, default),
+        None => None,
+    }
 }
 
 /// The value of an enum at a tile: that of the option that fits with the most bits, and on a tie the default's; `None`
@@ -132,6 +147,7 @@ fn tied_value<'a>(
 pub fn enum_value<'a>(image: &Image, tile: &Tile, setting: &'a EnumSetting) -> Option<&'a Name>
     ensures { option_copied result ≡ enum_value_of (bits image.now) (origin_of tile.now) setting.now }
 {
-    let longest = longest_fit(image, tile, setting.options.as_slice());
-    tied_value(image, tile, longest, setting)
+    let options = setting.options.as_slice();
+    let longest = longest_fit(image, tile, options);
+    tied_value(image, tile, longest, options, setting.default.as_ref())
 }

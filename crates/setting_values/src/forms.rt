@@ -96,13 +96,7 @@ fn same_enums(a: Option<&EnumSetting>, b: Option<&EnumSetting>) -> bool
 }
 
 // Whether the settings of two names in two tiles have the same form.
-fn same_form<G: NamedGraph>(
-    graph: &G,
-    a: &Name,
-    a_tile: TileId,
-    b: &Name,
-    b_tile: TileId,
-) -> bool
+fn same_form<G: NamedGraph>(graph: &G, a: &Name, a_tile: TileId, b: &Name, b_tile: TileId) -> bool
     requires a_there { a_tile < length (G.graph graph.now).grid.tiles }
     requires b_there { b_tile < length (G.graph graph.now).grid.tiles }
     ensures { result ≡ same_form_of (form_of (settings_at (G.graph graph.now) a_tile) a.now) (form_of (settings_at (G.graph graph.now) b_tile) b.now) }

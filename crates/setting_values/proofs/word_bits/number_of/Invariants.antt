@@ -3,7 +3,7 @@ use Rattle.patterns.specs.Fits.{fits}
 use Rattle.records.specs.Grid.{origin_of}
 use Rattle.circuit.specs.Worlds.{address}
 use Rattle.cram_image.specs.Image.{bits}
-use Rattle.setting_values.proofs.word_bits.word_number.Given as goal
+use Rattle.setting_values.proofs.word_bits.number_of.Given as goal
 
 -- the number of the bits that were read
 abbrev pub invariant-loop-left : goal.invariant-loop-left
