@@ -1,3 +1,4 @@
 mod Finding
 mod Putting
 mod Pairing
+mod Adding

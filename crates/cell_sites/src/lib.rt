@@ -8,6 +8,7 @@ mod in_order;
 mod kinds;
 mod named;
 mod pairs;
+mod rows;
 mod side_names;
 mod sites;
 

@@ -6,7 +6,7 @@ use std::marker::Model;
 use tile_grid::Tile;
 
 /// A site of a slice: its tile, with the tile's number in the grid, and its kind. Contracts see the record of the three.
-#[derive(Clone, Copy)]
+#[derive(Drop)]
 pub struct SliceSite<'a> {
     pub number: TileId,
     pub tile: &'a Tile,
@@ -23,7 +23,7 @@ impl<'a> Model for SliceSite<'a> {
 }
 
 /// A site of a pad: its tile, with the tile's number in the grid, and its kind. Contracts see the record of the three.
-#[derive(Clone, Copy)]
+#[derive(Drop)]
 pub struct PadSite<'a> {
     pub number: TileId,
     pub tile: &'a Tile,
