@@ -1,15 +1,18 @@
 //! The kinds of a profile by their types of tiles and their names.
 
 ghost use Rattle.std.specs.Prelude.{◌≡◌, IfOk};
-ghost use Rattle.cells.specs.Sites.{pad_site, slice_site};
+ghost use Rattle.std.specs.Option.{option_copied};
+ghost use Rattle.cells.specs.Sites.{pad_kind as pad_kind_of, pad_site, slice_kind as slice_kind_of, slice_site};
 
 use crate::pairs::{ByPair, by_pair, pair_named};
 use crate::sites::{PadSite, SliceSite};
 use cell_profile::{PadKind, Profile, SliceKind};
 use named_graph::NamedGraph;
+use rr_ids::Name;
 use side_file::Placed;
 use std::alloc::{AllocError, Global};
 use std::marker::Model;
+use tile_grid::Tile;
 
 /// A profile that is lent, and its kinds by type of tile and name. Contracts see the record of the profile.
 #[derive(Drop)]
@@ -42,6 +45,20 @@ impl<'a> Kinds<'a> {
         })
     }
 
+    // The kind of slice of a name in a tile.
+    fn slice_kind(&self, tile: &'a Tile, name: &'a Name) -> Option<&'a SliceKind>
+        ensures { option_copied result ≡ slice_kind_of self.now name.now tile.now }
+    {
+        pair_named(&self.slices, &tile.kind, name)
+    }
+
+    // The kind of pad of a name in a tile.
+    fn pad_kind(&self, tile: &'a Tile, name: &'a Name) -> Option<&'a PadKind>
+        ensures { option_copied result ≡ pad_kind_of self.now name.now tile.now }
+    {
+        pair_named(&self.pads, &tile.kind, name)
+    }
+
     /// The site at which a placed slice stands; `None` exactly where its tile or kind isn't there, or the tile has no row
     /// and column.
     pub fn slice_site<G: NamedGraph>(&self, graph: &'a G, cell: &'a Placed) -> Option<SliceSite<'a>>
@@ -49,7 +66,7 @@ impl<'a> Kinds<'a> {
     {
         let number = graph.tile_named(&cell.tile)?;
         let tile = graph.tile(number);
-        let kind = pair_named(&self.slices, &tile.kind, &cell.kind)?;
+        let kind = self.slice_kind(tile, &cell.kind)?;
         tile.place?;
         Some(SliceSite { number, tile, kind })
     }
@@ -60,7 +77,7 @@ impl<'a> Kinds<'a> {
     {
         let number = graph.tile_named(&cell.tile)?;
         let tile = graph.tile(number);
-        let kind = pair_named(&self.pads, &tile.kind, &cell.kind)?;
+        let kind = self.pad_kind(tile, &cell.kind)?;
         tile.place?;
         Some(PadSite { number, tile, kind })
     }
