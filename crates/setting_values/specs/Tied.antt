@@ -1,5 +1,5 @@
 -- The options of an enum that are tied: those that fit with at least so many bits. (Our own.)
-use Rattle.std.specs.Prelude.{ℕ, Bool, List, length, nat_le, ◌&&◌}
+use Rattle.std.specs.Prelude.{ℕ, Bool, length, nat_le, ◌&&◌}
 use Rattle.patterns.specs.Bits.{DeviceBit, Bits}
 use Rattle.patterns.specs.Fits.{fits}
 use Rattle.records.specs.Database.{EnumOption}
