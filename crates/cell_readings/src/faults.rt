@@ -5,7 +5,7 @@ ghost use Rattle.std.specs.Option.{option_copied, option_map_or};
 ghost use Rattle.std.specs.Str.{bytes_eq};
 ghost use Rattle.words.specs.Firsts.{unless_fault};
 ghost use Rattle.words.specs.OrMemory.{OrMemory};
-ghost use Rattle.cell_parts.specs.Views.{role_of as role_view};
+ghost use Rattle.cell_parts.specs.CellViews.{role_of as role_view};
 ghost use Rattle.cell_profile.specs.Takes.{take_of};
 ghost use Rattle.cell_readings.specs.Errors.{fault_of};
 ghost use Rattle.cell_readings.specs.Roles.{role_reading};

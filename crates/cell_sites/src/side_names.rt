@@ -4,7 +4,7 @@ ghost use Rattle.std.specs.Prelude.{◌≡◌, ◌&&◌, IfOk, find};
 ghost use Rattle.std.specs.List.{list_any};
 ghost use Rattle.std.specs.Option.{option_copied};
 ghost use Rattle.std.specs.Str.{bytes_eq};
-ghost use Rattle.cell_parts.specs.Views.{role_of as role_view};
+ghost use Rattle.cell_parts.specs.CellViews.{role_of as role_view};
 ghost use Rattle.cells.specs.Resolved.{role_of};
 
 use crate::entries::{entries_of, has_entry};

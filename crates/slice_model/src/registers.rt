@@ -2,7 +2,7 @@
 
 ghost use Rattle.std.specs.Prelude.{◌≡◌, ◌<◌, Some, IfOk, false, length, map, option_map, slice_get};
 ghost use Rattle.std.specs.Option.{option_map_or};
-ghost use Rattle.cell_parts.specs.Views.{input_of as input_view};
+ghost use Rattle.cell_parts.specs.CellViews.{input_of as input_view};
 ghost use Rattle.cell_profile.specs.Takes.{take_of};
 ghost use Rattle.cells.specs.Resolved.{input_at as input_at_of, register_cell as register_cell_of};
 ghost use Rattle.cells.specs.Sites.{Site};
