@@ -25,6 +25,16 @@ use rr_ids::{Name, Text, TileId};
 use setting_values::{value_at, word_digits};
 use std::alloc::{AllocError, Global};
 
+// The text of a value, or `?` where there is none.
+fn value_text(alloc: Global, value: Option<&Name>) -> Result<Text, AllocError>
+    ensures { IfOk result (λ text. text ≡ unwrap_or (option_copied value.entry) (codes "?")) }
+{
+    match value {
+        Some(name) => Text::new(alloc, name.bytes()),
+        None => Text::new(alloc, b"?"),
+    }
+}
+
 // A value that isn't modelled, or `?` where there is none.
 fn unmodelled(
     alloc: Global,
@@ -34,11 +44,8 @@ fn unmodelled(
 ) -> Result<CellError, AllocError>
     ensures { IfOk result (λ e. fault_of e ≡ Some (Unmodelled cell.now setting.now (unwrap_or (option_copied value.entry) (codes "?")))) }
 {
-    let value = match value {
-        Some(name) => Text::new(alloc, name.bytes())?,
-        None => Text::new(alloc, b"?")?,
-    };
-    Ok(CellError::Unmodelled(cell.copy()?, Text::new(alloc, setting)?, value))
+    let text = value_text(alloc, value)?;
+    Ok(CellError::Unmodelled(cell.copy()?, Text::new(alloc, setting)?, text))
 }
 
 // Whether a value is there and is the one that is required.
@@ -72,10 +79,14 @@ pub(crate) fn require_fault<G: NamedGraph>(
 }
 
 // Whether there are as many bits as assignments of bits to pins.
+#[tactic(auto, using(crate::proofs::Passing::few_pins, crate::proofs::Passing::many_pins))]
 fn has_each_assignment(bits: usize, pins: usize) -> bool
     ensures { result ≡ (bits == 2 ^ pins) }
 {
-    pins < 64 && bits == 1 << pins
+    if pins >= 64 {
+        return false;
+    }
+    bits == 1 << pins
 }
 
 /// The word of a table isn't there, or hasn't a bit for each assignment of bits to its pins.

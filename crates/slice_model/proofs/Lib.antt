@@ -1,1 +1,2 @@
+mod Filtering
 mod Whole
