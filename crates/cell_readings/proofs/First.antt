@@ -1,8 +1,9 @@
 -- The first fault of a list, one element after the other.
-use Rattle.std.proofs.Common.{◌≡◌, ℕ, zero, suc, ◌+◌, ◌<◌, ◌≤◌, List, [], ◌∷◌, ◌++◌, flat_map, map, drop, length, get_or, Option, None, Some, Ok, Err, refl, sym, ap, ◌∙◌, arith, add-one}
+use Rattle.std.proofs.Common.{◌≡◌, ℕ, zero, suc, ◌+◌, ◌<◌, ◌≤◌, List, [], ◌∷◌, ◌++◌, flat_map, map, drop, length, get_or, Option, None, Some, Result, Ok, Err, refl, sym, ap, subst, ◌∙◌, arith, add-one}
 use Rattle.std.specs.Prelude.{IfSome}
 use Rattle.std.proofs.lemmas.List.{drop_all}
 use Rattle.words.specs.Firsts.{or_else, unless_fault}
+use Rattle.words.specs.OrMemory.{OrMemory}
 use Rattle.cell_readings.specs.First.{first_of}
 
 or_assoc : {E : Type 0} (a b c : Option E) → or_else (or_else a b) c ≡ or_else a (or_else b c)
@@ -58,3 +59,27 @@ first_found fault xs i x (Some f) l e found h =
 -- all pass
 pub first_end : {X E : Type 0} (fault : X → Option E) (xs : List X) (i : ℕ) → length xs ≤ i → first_of fault (drop i xs) ≡ first_of fault xs → unless_fault (first_of fault xs) (tt {0}) ≡ Ok (tt {0})
 first_end fault xs i l h = ap (λ o. unless_fault o (tt {0})) (sym h ∙ first_none fault xs i l)
+
+-- the fault of the first of two is that of both
+pub found_first : {E : Type 0} (o p found : Option E) → IfSome found (λ f. unless_fault o (tt {0}) ≡ Err f) → IfSome found (λ f. unless_fault (or_else o p) (tt {0}) ≡ Err f)
+found_first o p None h = tt
+found_first o p (Some f) h = is_first o p (tt {0}) f h
+
+-- where the first of two has none, that of the second is
+pub passed : {E : Type 0} (o p : Option E) → unless_fault o (tt {0}) ≡ Ok (tt {0}) → unless_fault p (tt {0}) ≡ unless_fault (or_else o p) (tt {0})
+passed None p e = refl
+passed (Some f) p e = absurd (let no : ⊥ = cc in no)
+
+pub found_later : {E : Type 0} (o p found : Option E) → unless_fault o (tt {0}) ≡ Ok (tt {0}) → IfSome found (λ f. unless_fault p (tt {0}) ≡ Err f)
+    → IfSome found (λ f. unless_fault (or_else o p) (tt {0}) ≡ Err f)
+found_later o p None e h = tt
+found_later o p (Some f) e h = sym (passed o p e) ∙ h
+
+pub result_later : {E G : Type 0} (fault : G → Option E) (r : Result (Unit {0}) G) (o p : Option E) → unless_fault o (tt {0}) ≡ Ok (tt {0}) → OrMemory (λ done. done) fault r (unless_fault p (tt {0}))
+    → OrMemory (λ done. done) fault r (unless_fault (or_else o p) (tt {0}))
+result_later fault r o p e h = subst (OrMemory (λ done. done) fault r) (passed o p e) h
+
+-- nothing stands behind the last
+pub last : {E : Type 0} (o : Option E) → unless_fault o (tt {0}) ≡ unless_fault (or_else o None) (tt {0})
+last None = refl
+last (Some f) = refl

@@ -1,6 +1,6 @@
 -- Settings that are modelled, and those that aren't.
-use Rattle.std.proofs.Common.{◌≡◌, ℕ, ◌*◌, ◌%◌, ◌^◌, ◌<◌, ◌≤◌, ◌⊎◌, inl, inr, Bool, true, false, List, [], ◌∷◌, length, map, Option, None, Some, Ok, Err, option_map, refl, sym, ap, subst, ◌∙◌, arith}
-use Rattle.std.specs.Prelude.{codes, unwrap_or, slice_get, option_and_then, ◌==◌, if◌then◌else◌}
+use Rattle.std.proofs.Common.{◌≡◌, ℕ, ◌*◌, ◌%◌, ◌^◌, ◌<◌, ◌≤◌, ◌⊎◌, inl, inr, Bool, true, false, List, [], ◌∷◌, length, map, Option, None, Some, Result, Ok, Err, option_map, refl, sym, ap, subst, ◌∙◌, arith}
+use Rattle.std.specs.Prelude.{IfSome, codes, unwrap_or, slice_get, option_and_then, ◌==◌, if◌then◌else◌}
 use Rattle.std.specs.Option.{option_map_or}
 use Rattle.std.proofs.lemmas.Bool.{false_from_ne_true}
 use Rattle.std.proofs.lemmas.Bool.Decides.{Decides-eqb}
@@ -38,6 +38,10 @@ passes r e = ap (λ b. unless_fault (if b then None else Some (Unmodelled r.cell
 
 pub fails : (r : Reading) → r.modelled ≡ false → unless_fault (value_fault r) (tt {0}) ≡ Err (Unmodelled r.cell r.setting (unwrap_or r.value (codes "?")))
 fails r e = ap (λ b. unless_fault (if b then None else Some (Unmodelled r.cell r.setting (unwrap_or r.value (codes "?")))) (tt {0})) e
+
+-- a fault that is named
+pub is_named : {F : Type 0} (o : Option F) (u : F) (x : Result (Unit {0}) F) → o ≡ Some u → x ≡ Err u → IfSome o (λ f. x ≡ Err f)
+is_named o u x e h = subst (λ p. IfSome p (λ f. x ≡ Err f)) (sym e) h
 
 -- the bits of the word of a name in a tile
 pub word_is : (g : Graph) (image : Bits) (t : ℕ) (name : List ℕ) (tile : Tile) → Some tile ≡ slice_get g.grid.tiles t

@@ -59,6 +59,7 @@ fn is_value(value: Option<&Name>, required: &Name) -> bool
 }
 
 /// A required enum hasn't the value that is required.
+#[tactic(auto, using(crate::proofs::Passing::passes, crate::proofs::Passing::fails, crate::proofs::Passing::is_named))]
 pub(crate) fn require_fault<G: NamedGraph>(
     alloc: Global,
     graph: &G,
@@ -90,6 +91,7 @@ fn has_each_assignment(bits: usize, pins: usize) -> bool
 }
 
 /// The word of a table isn't there, or hasn't a bit for each assignment of bits to its pins.
+#[tactic(auto, using(crate::proofs::Passing::passes, crate::proofs::Passing::fails, crate::proofs::Passing::is_named, crate::proofs::Passing::table_is))]
 pub(crate) fn table_fault<G: NamedGraph>(
     alloc: Global,
     graph: &G,
@@ -127,6 +129,7 @@ fn setting_bytes(choice: &Choice) -> &[u8]
 }
 
 /// A choice has no case for the value of its setting.
+#[tactic(auto, using(crate::proofs::Passing::passes, crate::proofs::Passing::fails, crate::proofs::Passing::is_named))]
 pub fn choice_fault<G: NamedGraph>(
     alloc: Global,
     graph: &G,
@@ -159,6 +162,7 @@ fn suits(role: Role, take: Option<&Take>) -> bool
 }
 
 /// A named pad hasn't the mode of its role.
+#[tactic(auto, using(crate::proofs::Passing::passes, crate::proofs::Passing::fails, crate::proofs::Passing::is_named))]
 pub fn pad_fault<G: NamedGraph>(
     alloc: Global,
     graph: &G,
