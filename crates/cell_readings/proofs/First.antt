@@ -1,5 +1,5 @@
 -- The first fault of a list, one element after the other.
-use Rattle.std.proofs.Common.{◌≡◌, ℕ, zero, suc, ◌+◌, ◌<◌, ◌≤◌, List, [], ◌∷◌, ◌++◌, flat_map, map, drop, length, get_or, Option, None, Some, Result, Ok, Err, refl, sym, ap, subst, ◌∙◌, arith, add-one}
+use Rattle.std.proofs.Common.{◌≡◌, ℕ, zero, suc, ◌+◌, ◌<◌, ◌≤◌, List, [], ◌∷◌, ◌++◌, flat_map, map, drop, length, get_or, Option, None, Some, Result, Ok, Err, refl, sym, ap, ap₂, subst, ◌∙◌, arith, add-one}
 use Rattle.std.specs.Prelude.{IfSome}
 use Rattle.std.proofs.lemmas.List.{drop_all}
 use Rattle.words.specs.Firsts.{or_else, unless_fault}
@@ -83,3 +83,30 @@ result_later fault r o p e h = subst (OrMemory (λ done. done) fault r) (passed 
 pub last : {E : Type 0} (o : Option E) → unless_fault o (tt {0}) ≡ unless_fault (or_else o None) (tt {0})
 last None = refl
 last (Some f) = refl
+
+-- the first fault of three lists in turn
+pub in_three : {X Y Z R E : Type 0} (fault : R → Option E) (a : X → R) (b : Y → R) (d : Z → List R) (xs : List X) (ys : List Y) (zs : List Z)
+    → or_else (first_of (λ x. fault (a x)) xs) (or_else (first_of (λ y. fault (b y)) ys) (first_of (λ z. first_of fault (d z)) zs))
+    ≡ first_of fault (map a xs ++ map b ys ++ flat_map d zs)
+in_three fault a b d xs ys zs =
+    sym (first_both fault (map a xs ++ map b ys) (flat_map d zs)
+    ∙ (ap (λ o. or_else o (first_of fault (flat_map d zs))) (first_both fault (map a xs) (map b ys))
+    ∙ (or_assoc (first_of fault (map a xs)) (first_of fault (map b ys)) (first_of fault (flat_map d zs))
+    ∙ ap₂ or_else (first_mapped fault a xs) (ap₂ or_else (first_mapped fault b ys) (first_flat fault d zs)))))
+
+-- the same of the first of a list and those behind it
+module _ {X E : Type 0} (fault : X → Option E) (x : X) (xs : List X) where
+  pub list_first : (found : Option E) → IfSome found (λ f. unless_fault (fault x) (tt {0}) ≡ Err f) → IfSome found (λ f. unless_fault (first_of fault (x ∷ xs)) (tt {0}) ≡ Err f)
+  list_first found h = found_first (fault x) (first_of fault xs) found h
+
+  pub list_later : (found : Option E) → unless_fault (fault x) (tt {0}) ≡ Ok (tt {0}) → IfSome found (λ f. unless_fault (first_of fault xs) (tt {0}) ≡ Err f)
+      → IfSome found (λ f. unless_fault (first_of fault (x ∷ xs)) (tt {0}) ≡ Err f)
+  list_later found e h = found_later (fault x) (first_of fault xs) found e h
+
+  pub list_result : {G : Type 0} (named : G → Option E) (r : Result (Unit {0}) G) → unless_fault (fault x) (tt {0}) ≡ Ok (tt {0}) → OrMemory (λ done. done) named r (unless_fault (first_of fault xs) (tt {0}))
+      → OrMemory (λ done. done) named r (unless_fault (first_of fault (x ∷ xs)) (tt {0}))
+  list_result named r e h = result_later named r (fault x) (first_of fault xs) e h
+
+pub list_last : {X E G : Type 0} (fault : X → Option E) (x : X) (named : G → Option E) (r : Result (Unit {0}) G) → OrMemory (λ done. done) named r (unless_fault (fault x) (tt {0}))
+    → OrMemory (λ done. done) named r (unless_fault (first_of fault (x ∷ [])) (tt {0}))
+list_last fault x named r h = subst (OrMemory (λ done. done) named r) (last (fault x)) h
