@@ -80,7 +80,6 @@ pub(crate) fn require_fault<G: NamedGraph>(
 }
 
 // Whether there are as many bits as assignments of bits to pins.
-#[tactic(auto, using(crate::proofs::Passing::few_pins, crate::proofs::Passing::many_pins))]
 fn has_each_assignment(bits: usize, pins: usize) -> bool
     ensures { result ≡ (bits == 2 ^ pins) }
 {

@@ -23,5 +23,11 @@ pub fn equal_shape<G: NamedGraph>(
     ensures { result ≡ equal_shape_of (settings_at (G.graph graph.now) a_tile) a.now (settings_at (G.graph graph.now) b_tile) b.now }
 {
     a.shape.bytes() == b.shape.bytes()
-        && same_forms(graph, a.settings.as_slice(), a_tile, b.settings.as_slice(), b_tile)
+        && same_forms(
+            graph,
+            a.settings.as_slice(),
+            a_tile,
+            b.settings.as_slice(),
+            b_tile,
+        )
 }
