@@ -71,6 +71,13 @@ impl<'a> DatabaseNames<'a> {
         })
     }
 
+    /// The database.
+    pub fn database(&self) -> &'a TileDb
+        ensures { result.now ≡ self.now }
+    {
+        self.db
+    }
+
     /// The place of the mux of a sink in the database; `None` exactly where there is no such mux.
     pub fn mux(&self, sink: &Name) -> Option<usize>
         ensures { result ≡ place_in (map (λ m. m.sink) self.now.muxes) sink.now }
