@@ -2,14 +2,14 @@
 //! and the names and patterns behind the numbers of muxes and arcs.
 #![tactic(auto)]
 
+mod behind;
 mod databases;
 mod muxes;
-mod patterns;
-mod records;
 mod settings;
+mod sources;
 
+pub use behind::{pattern_of, sink_name, source_name};
 pub use databases::TileDatabases;
 pub use muxes::mux_named;
-pub use patterns::pattern_named;
-pub use records::{pattern_of, sink_name, source_name};
 pub use settings::{enum_named, option_named, word_named};
+pub use sources::pattern_named;
