@@ -1,0 +1,5 @@
+use Rattle.link_rows.proofs.Ends.{sources_row}
+use Rattle.link_rows.proofs.rows.LinkRows.sources.Goals as goal
+
+pub returns : goal.returns
+returns c = sources_row c.args.self.now c.self.inside.links.items c.self.inside.sources c.self.inside.sinks c.args.w c.row.result.now c.self.invariant c.self.view_is c.requires c.row.ensures

@@ -1,0 +1,6 @@
+//! The links between the parts of cells that tables make: from what feeds the pins of a table to the table.
+#![tactic(auto)]
+
+mod feeding;
+
+pub use feeding::{TableLink, table_links};

@@ -1,0 +1,5 @@
+pub mod Writing
+pub mod Telling
+pub mod Least
+pub mod Equal
+pub mod Connected
