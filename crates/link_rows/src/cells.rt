@@ -81,7 +81,7 @@ fn is_there(row: &[WireId]) -> bool
 
 impl CellOutputs {
     /// The outputs of a list in wire order; `Twice` exactly where a wire stands there twice, with the least such wire. 2^32
-    /// outputs or more take all memory there is. Takes time in proportion to outputs and wires.
+    /// outputs or more are answered as want of memory. Takes time in proportion to outputs and wires.
     pub fn new(alloc: Global, wires: u32, outputs: &[WireId]) -> Result<CellOutputs, OutputsError>
         requires within { AreBelow wires outputs.now }
         ensures outputs { IfOk result (λ o. InOrderOnce nat_cmp outputs.now o.outputs) }

@@ -79,8 +79,8 @@ fn with_rows(alloc: Global, wires: u32, links: Vec<Link>) -> Result<LinkRows, Al
 }
 
 impl LinkRows {
-    /// Links between as many wires as there are, in order; 2^32 links or more take all memory there is. Takes time in proportion
-    /// to links and wires.
+    /// Links between as many wires as there are, in order; 2^32 links or more are answered as want of memory. Takes time in
+    /// proportion to links and wires.
     pub fn new(alloc: Global, wires: u32, links: &[Link]) -> Result<LinkRows, AllocError>
         requires within { AreWithin wires links.now }
         ensures links { IfOk result (λ rows. InOrderOnce link_cmp links.now rows.links) }

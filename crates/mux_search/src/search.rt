@@ -41,9 +41,9 @@ fn with_place(rows: &MuxRows, row: &[MuxId], place: usize) -> Option<MuxId>
     None
 }
 
-/// The mux of a tile at a place of its database; `None` where the tile has none. Where the muxes are those of the graph of a device
-/// and the place is that of the first record of a sink, it is the mux of the sink's name. Takes no memory, and time in proportion
-/// to the logarithm of the number of muxes of the tile.
+/// The mux of a sink's name in a tile, by the place of the first record of the name in the tile's database, where the muxes are
+/// those of the graph of a device; of another place nothing is said. Takes no memory, and time in proportion to the logarithm
+/// of the number of muxes of the tile.
 pub fn mux_at(rows: &MuxRows, t: TileId, place: usize) -> Option<MuxId>
     requires { t < rows.now.tiles }
     ensures { (device : Device) (g : Graph) → AreMuxesOf device g rows.now.muxes → (sink : List ℕ) → Some place ≡ place_named device t sink → result ≡ mux_named g t sink }
