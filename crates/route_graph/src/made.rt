@@ -1,15 +1,13 @@
 //! How a routing graph is made.
 
-ghost use Rattle.std.specs.Prelude.{◌≡◌, ◌≤◌, IfErr, IfOk, length};
+ghost use Rattle.std.specs.Prelude.{◌≡◌, ◌<◌, IfErr, IfOk, length};
 ghost use Rattle.std.specs.Ordering.{nat_cmp};
-ghost use Rattle.fabric.specs.GraphOf.{IsGraph, fixed_of, link_cmp, muxes_of, outputs_of};
+ghost use Rattle.fabric.specs.GraphOf.{IsGraph, fixed_of, link_cmp, outputs_of};
 ghost use Rattle.fabric.specs.InOrder.{InOrderOnce};
-ghost use Rattle.graph_lists.specs.ArcLists.{numbers_cmp};
-ghost use Rattle.graph_numbers.specs.Numbers.{mux_numbers};
-ghost use Rattle.graph_numbers.specs.StandFor.{arc_numbers};
-ghost use Rattle.number_lists.specs.Routed.{graph_of};
-ghost use Rattle.records.specs.Limits.{most_arcs, most_muxes};
+ghost use Rattle.link_rows.specs.Kept.{IsFirstTwice};
+ghost use Rattle.number_lists.specs.Routed.{IsRouted, graph_of, routed};
 ghost use Rattle.size_laws.specs.Sizes.{IsSmall, OverlapsNowhere};
+ghost use Rattle.route_graph.specs.Kept.{AreGraphRows};
 ghost use Rattle.route_graph.specs.Why.{IsWhy};
 
 use crate::owned::owned_wire;
@@ -38,12 +36,8 @@ fn numbered<'a>(alloc: Global, device: &'a Device<'a>) -> Result<DeviceNumbers<'
 }
 
 // The muxes and arcs of a device in rows.
-#[tactic(auto, using(crate::proofs::Built::small, size_laws::proofs::Counts::muxes_refuse, size_laws::proofs::Counts::arcs_refuse))]
 fn in_rows(alloc: Global, numbers: &DeviceNumbers<'_>) -> Result<GraphRows, GraphError>
-    ensures muxes { IfOk result (λ rows. rows.muxes ≡ record { tiles = length numbers.now.device.grid.tiles; wires = length numbers.now.wires; muxes = mux_numbers numbers.now.device numbers.now.wires }) }
-    ensures arcs { IfOk result (λ rows. InOrderOnce numbers_cmp (arc_numbers numbers.now.device numbers.now.wires (muxes_of numbers.now.device numbers.now.wires)) rows.arcs.arcs) }
-    ensures counts { IfOk result (λ rows. (rows.arcs.wires ≡ length numbers.now.wires) × (rows.arcs.muxes ≡ length rows.muxes.muxes)) }
-    ensures few { IfOk result (λ rows. (length rows.muxes.muxes ≤ most_muxes) × (length rows.arcs.arcs ≤ most_arcs)) }
+    ensures rows { IfOk result (λ rows. AreGraphRows numbers.now.device numbers.now.wires rows.muxes rows.arcs) }
     ensures small { IfOk result (λ rows. IsSmall numbers.now.device) }
     ensures why { IfErr result (IsWhy numbers.now.device) }
 {
@@ -57,7 +51,6 @@ fn in_rows(alloc: Global, numbers: &DeviceNumbers<'_>) -> Result<GraphRows, Grap
 }
 
 // The fixed connections and joins of a device in rows.
-#[tactic(auto, using(number_lists::proofs::Within::links_within))]
 fn links_in_rows(
     alloc: Global,
     numbers: &DeviceNumbers<'_>,
@@ -70,8 +63,18 @@ fn links_in_rows(
     LinkRows::new(alloc, numbers.wires().len(), links)
 }
 
+// The wire of a number is the least that overlaps.
+fn overlap(alloc: Global, numbers: &DeviceNumbers<'_>, w: WireId) -> Result<GraphError, AllocError>
+    requires known { w < length numbers.now.wires }
+    requires small { IsSmall numbers.now.device }
+    requires first { IsFirstTwice (outputs_of numbers.now.device numbers.now.wires) w }
+    ensures { IfOk result (IsWhy numbers.now.device) }
+{
+    let wire = owned_wire(alloc, numbers.wires(), w)?;
+    Ok(GraphError::Overlap(wire))
+}
+
 // The cell outputs of a device, whose graph isn't too large, in rows.
-#[tactic(auto, using(crate::proofs::Built::memory_says_nothing, crate::proofs::Built::overlaps, number_lists::proofs::Within::outputs_below, size_laws::proofs::Counts::once_does_not))]
 fn outputs_in_rows(
     alloc: Global,
     numbers: &DeviceNumbers<'_>,
@@ -86,43 +89,50 @@ fn outputs_in_rows(
 {
     match CellOutputs::new(alloc, numbers.wires().len(), outputs) {
         Ok(outputs) => Ok(outputs),
-        Err(OutputsError::Twice(w)) => {
-            let wire = owned_wire(alloc, numbers.wires(), w)?;
-            Err(GraphError::Overlap(wire))
-        }
+        Err(OutputsError::Twice(w)) => match overlap(alloc, numbers, w) {
+            Ok(error) => Err(error),
+            Err(_) => Err(GraphError::Memory),
+        },
         Err(OutputsError::Memory) => Err(GraphError::Memory),
     }
 }
 
+// The routing graph of parts that are those of a device.
+fn of_parts<'a>(
+    numbers: DeviceNumbers<'a>,
+    rows: GraphRows,
+    fixed: LinkRows,
+    outputs: CellOutputs,
+) -> RouteGraph<'a>
+    requires { IsRouted numbers.device numbers.wires rows.muxes rows.arcs fixed outputs }
+    ensures { result ≡ routed numbers.entry.device numbers.entry.wires rows.muxes rows.arcs fixed outputs }
+{
+    RouteGraph {
+        numbers,
+        rows,
+        fixed,
+        outputs,
+    }
+}
+
 // The routing graph of a device whose muxes and arcs stand in rows.
-#[tactic(auto, using(crate::proofs::Built::memory_says_nothing, crate::proofs::Built::is_routed, crate::proofs::Built::graph_made))]
 fn with_links<'a>(
     alloc: Global,
     numbers: DeviceNumbers<'a>,
     rows: GraphRows,
 ) -> Result<RouteGraph<'a>, GraphError>
-    requires muxes { rows.muxes ≡ record { tiles = length numbers.device.grid.tiles; wires = length numbers.wires; muxes = mux_numbers numbers.device numbers.wires } }
-    requires arcs { InOrderOnce numbers_cmp (arc_numbers numbers.device numbers.wires (muxes_of numbers.device numbers.wires)) rows.arcs.arcs }
-    requires wires { rows.arcs.wires ≡ length numbers.wires }
-    requires known { rows.arcs.muxes ≡ length rows.muxes.muxes }
-    requires few_muxes { length rows.muxes.muxes ≤ most_muxes }
-    requires few_arcs { length rows.arcs.arcs ≤ most_arcs }
+    requires rows { AreGraphRows numbers.device numbers.wires rows.muxes rows.arcs }
     requires small { IsSmall numbers.device }
-    ensures device { IfOk result (λ g. g.device ≡ numbers.device) }
-    ensures graph { IfOk result (λ g. IsGraph numbers.device (graph_of g)) }
-    ensures apart { IfOk result (λ g. OverlapsNowhere numbers.device) }
-    ensures why { IfErr result (IsWhy numbers.device) }
+    ensures device { IfOk result (λ g. g.device ≡ numbers.entry.device) }
+    ensures graph { IfOk result (λ g. IsGraph numbers.entry.device (graph_of g)) }
+    ensures apart { IfOk result (λ g. OverlapsNowhere numbers.entry.device) }
+    ensures why { IfErr result (IsWhy numbers.entry.device) }
 {
     let _wires = numbers.wires().len();
     let links = links_of(alloc, &numbers)?;
     let outputs = outputs_in_rows(alloc, &numbers, &links.outputs)?;
     let fixed = links_in_rows(alloc, &numbers, &links.fixed)?;
-    Ok(RouteGraph {
-        numbers,
-        rows,
-        fixed,
-        outputs,
-    })
+    Ok(of_parts(numbers, rows, fixed, outputs))
 }
 
 /// The routing graph of a device. `Wires`, `Muxes` and `Arcs` exactly where the graph is too large in this quantity and in none
