@@ -1,5 +1,5 @@
 -- A graph that is made, and why one isn't.
-use Rattle.std.proofs.Common.{◌≡◌, ◌≤◌, ◌<◌, ℕ, List, length, flat_map, slice_get, Some, nat_cmp, refl, sym, ap, subst}
+use Rattle.std.proofs.Common.{◌≡◌, ◌≤◌, ◌<◌, ℕ, List, length, flat_map, slice_get, Some, nat_cmp, refl, sym, ap, subst, ◌∙◌}
 use Rattle.records.specs.Limits as limits
 use Rattle.records.specs.Limits.{most_wires, most_muxes, most_arcs}
 use Rattle.fabric.specs.InOrder.{InOrderOnce}
@@ -16,16 +16,19 @@ use Rattle.graph_numbers.specs.StandFor.{arc_numbers}
 use Rattle.graph_numbers.proofs.Whole.{whole}
 use Rattle.mux_rows.specs.MuxTable.{MuxTable}
 use Rattle.arc_rows.specs.ArcTable.{ArcTable}
-use Rattle.link_rows.specs.Kept.{IsFirstTwice, LinkTable, OutputTable}
+use Rattle.link_rows.specs.Kept.{AreBelow, IsFirstTwice, LinkTable, OutputTable}
+use Rattle.link_order.specs.Order.{AreWithin}
+use Rattle.links.specs.Links.{Link}
+use Rattle.number_lists.proofs.Within.{links_within, outputs_below}
 use Rattle.number_lists.specs.Routed.{IsRouted, Routed, graph_of, numbers_in, routed}
-use Rattle.size_laws.specs.Sizes.{AreWiresOf, IsSmall, IsTooLarge, OverlapsAt}
+use Rattle.size_laws.specs.Sizes.{AreWiresOf, IsSmall, IsTooLarge}
 use Rattle.size_laws.proofs.Counts.{none_refuses, twice_overlaps, wires_refuse}
 use Rattle.route_graph.specs.Kept.{AreGraphRows}
 use Rattle.route_graph.specs.Owned.{wire_of}
 use Rattle.route_graph.specs.Why.{IsWhy}
 use Rattle.route_graph.specs.declared.errors.OwnedWire.{OwnedWire}
 use Rattle.route_graph.specs.declared.errors.GraphError.{GraphError}
-use Rattle.route_graph.specs.declared.errors.GraphError.TheVariants.{Memory}
+use Rattle.route_graph.specs.declared.errors.GraphError.TheVariants.{Memory, Overlap}
 
 pub too_many_wires : (device : Device) → NamesTooMany device → IsTooLarge device limits.Wires
 too_many_wires device many = wires_refuse device many.wires many.named many.many
@@ -60,9 +63,24 @@ small device wires muxes arcs are few rows g is =
     }) few rows.few_muxes rows.few_arcs g is
 
 -- the first wire that stands twice overlaps
-pub overlaps : (device : Device) (wires : List Wire) (w : ℕ) (wire : OwnedWire) → IsSmall device → AreWiresOf device wires → IsFirstTwice (outputs_of device wires) w → slice_get wires w ≡ Some (wire_of wire)
-    → IsSmall device × OverlapsAt device (wire_of wire)
-overlaps device wires w wire few are first there = (few, twice_overlaps device wires w (wire_of wire) are first there)
+pub overlap_is : (device : Device) (wires lent : List Wire) (w : ℕ) (wire : OwnedWire) → lent ≡ wires → IsSmall device → AreWiresOf device wires → IsFirstTwice (outputs_of device wires) w
+    → slice_get lent w ≡ Some (wire_of wire) → IsWhy device (Overlap wire)
+overlap_is device wires lent w wire same few are first there =
+    (few, twice_overlaps device wires w (wire_of wire) are first (ap (λ (ws : List Wire). slice_get ws w) (sym same) ∙ there))
+
+pub links_within_rows : (device : Device) (wires : List Wire) (n : ℕ) (links : List Link) → n ≡ length wires → links ≡ fixed_of device wires → AreWithin n links
+links_within_rows device wires n links count are =
+    subst (λ m. AreWithin m links) (sym count) (subst (λ (ls : List Link). AreWithin (length wires) ls) (sym are) (links_within device wires))
+
+pub outputs_within_rows : (device : Device) (wires : List Wire) (n : ℕ) (outputs : List ℕ) → n ≡ length wires → outputs ≡ outputs_of device wires → AreBelow n outputs
+outputs_within_rows device wires n outputs count are =
+    subst (λ m. AreBelow m outputs) (sym count) (subst (λ (os : List ℕ). AreBelow (length wires) os) (sym are) (outputs_below device wires))
+
+pub counted : (wires lent : List Wire) (n : ℕ) → lent ≡ wires → n ≡ length lent → n ≡ length wires
+counted wires lent n same count = count ∙ ap (λ (ws : List Wire). length ws) same
+
+pub few_wires : (wires lent : List Wire) → lent ≡ wires → length lent ≤ most_wires → length wires ≤ most_wires
+few_wires wires lent same few = subst (λ (ws : List Wire). length ws ≤ most_wires) same few
 
 module _ (device : Device) (wires : List Wire) (muxes : MuxTable) (arcs : ArcTable) (fixed : LinkTable) (outputs : OutputTable) where
   pub is_routed : AreWiresOf device wires → AreGraphRows device wires muxes arcs

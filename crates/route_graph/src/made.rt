@@ -63,15 +63,17 @@ fn links_in_rows(
     LinkRows::new(alloc, numbers.wires().len(), links)
 }
 
-// The wire of a number is the least that overlaps.
-fn overlap(alloc: Global, numbers: &DeviceNumbers<'_>, w: WireId) -> Result<GraphError, AllocError>
+// Why there is no graph where the wire of a number is the least that overlaps.
+fn overlap(alloc: Global, numbers: &DeviceNumbers<'_>, w: WireId) -> GraphError
     requires known { w < length numbers.now.wires }
     requires small { IsSmall numbers.now.device }
     requires first { IsFirstTwice (outputs_of numbers.now.device numbers.now.wires) w }
-    ensures { IfOk result (IsWhy numbers.now.device) }
+    ensures { IsWhy numbers.now.device result }
 {
-    let wire = owned_wire(alloc, numbers.wires(), w)?;
-    Ok(GraphError::Overlap(wire))
+    match owned_wire(alloc, numbers.wires(), w) {
+        Ok(wire) => GraphError::Overlap(wire),
+        Err(_) => GraphError::Memory,
+    }
 }
 
 // The cell outputs of a device, whose graph isn't too large, in rows.
@@ -89,10 +91,7 @@ fn outputs_in_rows(
 {
     match CellOutputs::new(alloc, numbers.wires().len(), outputs) {
         Ok(outputs) => Ok(outputs),
-        Err(OutputsError::Twice(w)) => match overlap(alloc, numbers, w) {
-            Ok(error) => Err(error),
-            Err(_) => Err(GraphError::Memory),
-        },
+        Err(OutputsError::Twice(w)) => Err(overlap(alloc, numbers, w)),
         Err(OutputsError::Memory) => Err(GraphError::Memory),
     }
 }
@@ -116,6 +115,7 @@ fn of_parts<'a>(
 }
 
 // The routing graph of a device whose muxes and arcs stand in rows.
+#[tactic(auto, using(crate::proofs::Built::memory_says_nothing))]
 fn with_links<'a>(
     alloc: Global,
     numbers: DeviceNumbers<'a>,
@@ -125,6 +125,7 @@ fn with_links<'a>(
     requires small { IsSmall numbers.device }
     ensures device { IfOk result (λ g. g.device ≡ numbers.entry.device) }
     ensures graph { IfOk result (λ g. IsGraph numbers.entry.device (graph_of g)) }
+    ensures small { IfOk result (λ g. IsSmall numbers.entry.device) }
     ensures apart { IfOk result (λ g. OverlapsNowhere numbers.entry.device) }
     ensures why { IfErr result (IsWhy numbers.entry.device) }
 {
