@@ -1,13 +1,13 @@
 //! How a routing graph is made.
 
-ghost use Rattle.std.specs.Prelude.{◌≡◌, ◌<◌, IfErr, IfOk, length};
+ghost use Rattle.std.specs.Prelude.{◌≡◌, ◌<◌, ℕ, IfErr, IfOk, length};
 ghost use Rattle.std.specs.Ordering.{nat_cmp};
 ghost use Rattle.fabric.specs.GraphOf.{IsGraph, fixed_of, link_cmp, outputs_of};
 ghost use Rattle.fabric.specs.InOrder.{InOrderOnce};
 ghost use Rattle.link_rows.specs.Kept.{IsFirstTwice};
 ghost use Rattle.number_lists.specs.Routed.{IsRouted, graph_of, routed};
 ghost use Rattle.size_laws.specs.Sizes.{IsSmall, OverlapsNowhere};
-ghost use Rattle.route_graph.specs.Kept.{AreGraphRows};
+ghost use Rattle.route_graph.specs.Kept.{AreGraphEnds, AreGraphRows};
 ghost use Rattle.route_graph.specs.Why.{IsWhy};
 
 use crate::owned::owned_wire;
@@ -76,6 +76,19 @@ fn overlap(alloc: Global, numbers: &DeviceNumbers<'_>, w: WireId) -> GraphError
     }
 }
 
+// Why there is no graph where cell outputs have no rows.
+fn overlap_of(alloc: Global, numbers: &DeviceNumbers<'_>, error: &OutputsError) -> GraphError
+    requires known { (w : ℕ) → error.now ≡ OutputsError.Twice w → w < length numbers.now.wires }
+    requires small { IsSmall numbers.now.device }
+    requires first { (w : ℕ) → error.now ≡ OutputsError.Twice w → IsFirstTwice (outputs_of numbers.now.device numbers.now.wires) w }
+    ensures { IsWhy numbers.now.device result }
+{
+    match *error {
+        OutputsError::Twice(w) => overlap(alloc, numbers, w),
+        OutputsError::Memory => GraphError::Memory,
+    }
+}
+
 // The cell outputs of a device, whose graph isn't too large, in rows.
 fn outputs_in_rows(
     alloc: Global,
@@ -91,49 +104,42 @@ fn outputs_in_rows(
 {
     match CellOutputs::new(alloc, numbers.wires().len(), outputs) {
         Ok(outputs) => Ok(outputs),
-        Err(OutputsError::Twice(w)) => Err(overlap(alloc, numbers, w)),
-        Err(OutputsError::Memory) => Err(GraphError::Memory),
+        Err(error) => Err(overlap_of(alloc, numbers, &error)),
     }
 }
 
-// The routing graph of parts that are those of a device.
-fn of_parts<'a>(
-    numbers: DeviceNumbers<'a>,
-    rows: GraphRows,
+/// The fixed connections and joins of a device, and its cell outputs, in rows.
+#[derive(Drop)]
+struct Ends {
     fixed: LinkRows,
     outputs: CellOutputs,
-) -> RouteGraph<'a>
-    requires { IsRouted numbers.device numbers.wires rows.muxes rows.arcs fixed outputs }
-    ensures { result ≡ routed numbers.entry.device numbers.entry.wires rows.muxes rows.arcs fixed outputs }
+}
+
+// The fixed connections, joins and cell outputs of a device, whose graph isn't too large, in rows.
+#[tactic(auto, using(crate::proofs::Built::memory_says_nothing))]
+fn ends_in_rows(alloc: Global, numbers: &DeviceNumbers<'_>) -> Result<Ends, GraphError>
+    requires { IsSmall numbers.now.device }
+    ensures ends { IfOk result (λ e. AreGraphEnds numbers.now.device numbers.now.wires e.fixed e.outputs) }
+    ensures apart { IfOk result (λ e. OverlapsNowhere numbers.now.device) }
+    ensures why { IfErr result (IsWhy numbers.now.device) }
+{
+    let links = links_of(alloc, numbers)?;
+    let outputs = outputs_in_rows(alloc, numbers, &links.outputs)?;
+    let fixed = links_in_rows(alloc, numbers, &links.fixed)?;
+    Ok(Ends { fixed, outputs })
+}
+
+// The routing graph of parts that are those of a device.
+fn of_parts<'a>(numbers: DeviceNumbers<'a>, rows: GraphRows, ends: Ends) -> RouteGraph<'a>
+    requires { IsRouted numbers.device numbers.wires rows.muxes rows.arcs ends.fixed ends.outputs }
+    ensures { result ≡ routed numbers.entry.device numbers.entry.wires rows.muxes rows.arcs ends.fixed ends.outputs }
 {
     RouteGraph {
         numbers,
         rows,
-        fixed,
-        outputs,
+        fixed: ends.fixed,
+        outputs: ends.outputs,
     }
-}
-
-// The routing graph of a device whose muxes and arcs stand in rows.
-#[tactic(auto, using(crate::proofs::Built::memory_says_nothing))]
-fn with_links<'a>(
-    alloc: Global,
-    numbers: DeviceNumbers<'a>,
-    rows: GraphRows,
-) -> Result<RouteGraph<'a>, GraphError>
-    requires rows { AreGraphRows numbers.device numbers.wires rows.muxes rows.arcs }
-    requires small { IsSmall numbers.device }
-    ensures device { IfOk result (λ g. g.device ≡ numbers.entry.device) }
-    ensures graph { IfOk result (λ g. IsGraph numbers.entry.device (graph_of g)) }
-    ensures small { IfOk result (λ g. IsSmall numbers.entry.device) }
-    ensures apart { IfOk result (λ g. OverlapsNowhere numbers.entry.device) }
-    ensures why { IfErr result (IsWhy numbers.entry.device) }
-{
-    let _wires = numbers.wires().len();
-    let links = links_of(alloc, &numbers)?;
-    let outputs = outputs_in_rows(alloc, &numbers, &links.outputs)?;
-    let fixed = links_in_rows(alloc, &numbers, &links.fixed)?;
-    Ok(of_parts(numbers, rows, fixed, outputs))
 }
 
 /// The routing graph of a device. `Wires`, `Muxes` and `Arcs` exactly where the graph is too large in this quantity and in none
@@ -148,5 +154,6 @@ pub fn build<'a>(alloc: Global, device: &'a Device<'a>) -> Result<RouteGraph<'a>
 {
     let numbers = numbered(alloc, device)?;
     let rows = in_rows(alloc, &numbers)?;
-    with_links(alloc, numbers, rows)
+    let ends = ends_in_rows(alloc, &numbers)?;
+    Ok(of_parts(numbers, rows, ends))
 }
