@@ -1,0 +1,3 @@
+pub mod Asked
+pub mod Built
+pub mod Named

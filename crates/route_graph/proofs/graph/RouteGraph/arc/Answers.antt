@@ -1,0 +1,11 @@
+use Rattle.route_graph.proofs.Asked.{of_arcs}
+use Rattle.route_graph.proofs.graph.RouteGraph.arc.Goals as goal
+
+pub arc-requires : goal.arc-requires
+arc-requires c = (of_arcs c.self.inside c.self.invariant c.args.self.now c.self.view_is).numbered c.args.a c.requires
+
+pub returns-clause-arc : goal.returns-clause-arc
+returns-clause-arc c = (of_arcs c.self.inside c.self.invariant c.args.self.now c.self.view_is).arc c.args.a c.arc.result c.arc.ensures
+
+pub returns-clause-numbers : goal.returns-clause-numbers
+returns-clause-numbers c = (of_arcs c.self.inside c.self.invariant c.args.self.now c.self.view_is).numbers c.args.a c.arc.result c.arc.ensures

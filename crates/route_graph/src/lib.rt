@@ -1,0 +1,12 @@
+//! The routing graph of a device: its wires, muxes, arcs, fixed connections, joins and cell outputs by numbers, in rows.
+#![tactic(auto)]
+
+mod calls;
+mod errors;
+mod graph;
+mod made;
+mod owned;
+
+pub use errors::{GraphError, OwnedWire};
+pub use graph::RouteGraph;
+pub use made::build;
