@@ -1,2 +1,3 @@
+pub mod ArcNames
 pub mod OfTypes
 pub mod Places

@@ -58,6 +58,7 @@ impl<'a> NamedDevice<'a> {
 
     /// The first arc of a mux, in arc order, from the source of a name; where muxes and arcs are those of the graph of the device, `None`
     /// exactly where the mux has no such arc. Takes no memory, and time in proportion to the logarithm of the number of arcs.
+    #[tactic(auto, using(crate::proofs::ArcNames::arc_found, crate::proofs::ArcNames::no_arc))]
     pub fn arc_named(
         &self,
         muxes: &[MuxInfo],
@@ -69,6 +70,7 @@ impl<'a> NamedDevice<'a> {
         ensures { (g : Graph) → AreArcsOf self.now.device g muxes.now arcs.now
             → result ≡ position (λ a. (a.mux == m) && bytes_eq a.arc.source source.now) g.arcs }
     {
+        // each graph of the device has these wires
         let _ = self.numbers.wires();
         match self.key_named(muxes, m, source) {
             Some(key) => number_of(arcs, &key),
