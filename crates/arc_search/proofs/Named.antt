@@ -50,7 +50,7 @@ module _ (device : Device) (g : Graph) (muxes : List MuxNumbers) (arcs : List Ar
 
   -- the arcs by numbers stand in arc order
   pub rising : IsRising numbers_cmp arcs
-  rising = subst (λ as. IsRising numbers_cmp as) standing.arcs_are (numbers_in_order (arcs_of device g.wires) g.arcs is.arcs).rising
+  rising = subst (λ xs. IsRising numbers_cmp xs) standing.arcs_are (numbers_in_order (arcs_of device g.wires) g.arcs is.arcs).rising
 
   module _ (m : ℕ) (source : List ℕ) where
     abbrev named_so : Arc → Bool
@@ -148,7 +148,7 @@ module _ (device : Device) (g : Graph) (muxes : List MuxNumbers) (arcs : List Ar
             subst (λ o. In (option_map_or (λ t. filter_map (λ e. arc_in device g.wires t m it e.0 e.1) (enumerate_from 0 mux.arcs)) o []) arc) (sym behind.in_tile)
             (in_filter_map_to (λ (e : ℕ × Arc). arc_in device g.wires tile m it e.0 e.1) (enumerate_from 0 mux.arcs) (p, first.it) arc (entry_to mux.arcs p first.it first.at) made) in
             let in_graph_arcs = (is.arcs.members arc).1 (in_flat_map (λ (e : ℕ × GraphMux). mux_arcs device g.wires e.0 e.1) (enumerate_from 0 (muxes_of device g.wires)) (m, it) arc (entry_to (muxes_of device g.wires) m it there) in_mux) in
-            subst (λ as. In as key) standing.arcs_are (in_map numbers_of g.arcs arc in_graph_arcs)
+            subst (λ xs. In xs key) standing.arcs_are (in_map numbers_of g.arcs arc in_graph_arcs)
 
         -- none that passes comes before it
         order : (x y : ℕ) → (x < y → ⊥) → (y ≡ x) ⊎ (y < x)
@@ -185,7 +185,7 @@ module _ (device : Device) (g : Graph) (muxes : List MuxNumbers) (arcs : List Ar
 
         first_number : (i : ℕ) → slice_get arcs i ≡ Some key → position passes g.arcs ≡ Some i
         first_number i h =
-            let found = behind_part numbers_of (slice_get g.arcs i) key (sym (slice_get-map numbers_of g.arcs i) ∙ (ap (λ as. slice_get as i) standing.arcs_are ∙ h)) in
+            let found = behind_part numbers_of (slice_get g.arcs i) key (sym (slice_get-map numbers_of g.arcs i) ∙ (ap (λ xs. slice_get xs i) standing.arcs_are ∙ h)) in
             let y = found.0 in
             let within = get_below g.arcs i y found.1.0 in
             first_at passes g.arcs i y found.1.0 (it_passes i y found.1.0 found.1.1)

@@ -58,7 +58,6 @@ impl<'a> NamedDevice<'a> {
 
     /// The first arc of a mux, in arc order, from the source of a name; where muxes and arcs are those of the graph of the device, `None`
     /// exactly where the mux has no such arc. Takes no memory, and time in proportion to the logarithm of the number of arcs.
-    #[tactic(auto, using(crate::proofs::ArcNames::arc_found, crate::proofs::ArcNames::no_arc))]
     pub fn arc_named(
         &self,
         muxes: &[MuxInfo],

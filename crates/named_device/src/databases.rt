@@ -10,7 +10,6 @@ use wire_names::LentRules;
 impl<'a> TileDatabases for NamedDevice<'a> {
     ghost device = { λ d. d.device };
 
-    #[tactic(auto, using(crate::proofs::OfTypes::names_are))]
     fn names(&self, t: TileId) -> Option<&DatabaseNames<'_>> {
         names_of_tile(self.names.as_slice(), self.numbers.types(), t)
     }

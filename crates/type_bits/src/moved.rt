@@ -51,7 +51,6 @@ impl<'n, 'a> TileBits for MovedBits<'n, 'a> {
         self.named.tile(t)
     }
 
-    #[tactic(auto, using(crate::proofs::OfTypes::bits_are))]
     fn bits(&self, t: TileId, place: u32) -> Option<&[PlaceBit]> {
         let numbers = self.named.numbers();
         bits_of_tile(self.types.as_slice(), numbers.types(), t, place)
