@@ -45,7 +45,6 @@ fn arc_behind<'d, D: TileDatabases>(
 
 /// The pattern of the arc of a number; where the muxes and arcs are those of the graph of the device, `None` exactly where there is
 /// no such arc. Takes no memory, and the same time for each arc.
-#[tactic(auto, using(record_laws::proofs::RecordsFound::pattern_is))]
 pub fn pattern_of<'d, D: TileDatabases>(
     device: &'d D,
     muxes: &[MuxInfo],
@@ -60,7 +59,6 @@ pub fn pattern_of<'d, D: TileDatabases>(
 }
 
 /// The name of the source of the arc of a number, as the database writes it; `None` as `pattern_of`.
-#[tactic(auto, using(record_laws::proofs::RecordsFound::source_is))]
 pub fn source_name<'d, D: TileDatabases>(
     device: &'d D,
     muxes: &[MuxInfo],
@@ -76,7 +74,6 @@ pub fn source_name<'d, D: TileDatabases>(
 
 /// The name of the sink of the mux of a number, as the database writes it; where the muxes are those of the graph of the device,
 /// `None` exactly where there is no such mux.
-#[tactic(auto, using(record_laws::proofs::RecordsFound::sink_is))]
 pub fn sink_name<'d, D: TileDatabases>(
     device: &'d D,
     muxes: &[MuxInfo],

@@ -42,7 +42,6 @@ pub fn enum_named<'d, D: TileDatabases>(
 }
 
 /// The option of a value of the enum of a name in a tile; `None` exactly where there is no such enum or option.
-#[tactic(auto, using(crate::proofs::SettingsFound::option_found, crate::proofs::SettingsFound::no_option))]
 pub fn option_named<'d, D: TileDatabases>(
     device: &'d D,
     t: TileId,

@@ -49,7 +49,7 @@ fn arc_of<'d, D: TileDatabases>(
 
 /// The pattern of the arc of a mux from the source of a name; where the muxes are those of the graph of the device, `None` exactly
 /// where the mux has no such arc. Takes no memory, and time in proportion to the logarithm of the number of arcs of the mux.
-#[tactic(auto, using(record_laws::proofs::ArcsFound::ignored_found, record_laws::proofs::ArcsFound::pattern_found))]
+#[tactic(auto, using(record_laws::proofs::ArcsFound::ignored_found))]
 pub fn pattern_named<'d, D: TileDatabases>(
     device: &'d D,
     muxes: &[MuxInfo],

@@ -1,6 +1,6 @@
 //! Arcs by the names of their sources.
 
-ghost use Rattle.arc_search.specs.Numbers.{key_in, key_named, place_from};
+ghost use Rattle.arc_search.specs.Numbers.{key_in, key_named as key_named_in, place_from};
 ghost use Rattle.fabric.specs.Graph.{Graph};
 ghost use Rattle.record_laws.specs.Records.{AreArcsOf};
 ghost use Rattle.std.specs.Prelude.{◌==◌, ◌&&◌, ◌≡◌, ◌<◌, ◌^◌, length, option_and_then, position, slice_get};
@@ -50,7 +50,7 @@ impl<'a> NamedDevice<'a> {
 
     // The same of the mux of a number.
     fn key_named(&self, muxes: &[MuxInfo], m: MuxId, source: &Name) -> Option<ArcKey>
-        ensures { result ≡ key_named self.now.device self.now.wires muxes.now m source.now }
+        ensures { result ≡ key_named_in self.now.device self.now.wires muxes.now m source.now }
     {
         let mux = muxes.get(m.to_u32() as usize)?;
         self.arc_key(m, mux, source)

@@ -11,7 +11,7 @@ use Rattle.device_names.specs.Types.{type_named}
 use Rattle.tile_types.specs.Slots.{TypeSlots}
 use Rattle.tile_types.specs.Types.{Types, AreTypesOf, type_in}
 use Rattle.named_device.proofs.OfTypes.{by_number, type_is}
-use Rattle.type_bits.specs.TypeBits.{bits_of_types, kept_at, type_bits}
+use Rattle.type_bits.specs.TypeBits.{device_bits, kept_at, type_bits}
 
 inner : (bits : List (List (List DeviceBit))) (place : ℕ) (o : Option ℕ)
     → option_and_then (λ n. option_and_then (λ muxes. slice_get muxes place) (slice_get bits n)) o ≡ option_and_then (λ (muxes : List (List DeviceBit)). slice_get muxes place) (option_and_then (slice_get bits) o)
@@ -39,9 +39,9 @@ module _ (device : Device) (place : ℕ) where
       ∙ of_tile (slice_get device.grid.tiles tile)))
 
   -- the bits that are kept for a tile are those of its muxes
-  pub bits_are : (types : Types) (bits : List (List (List DeviceBit))) (tile : ℕ) (o : Option (List DeviceBit)) → AreTypesOf device types → bits ≡ bits_of_types device → o ≡ kept_at bits types tile place → o ≡ bits_at device tile place
+  pub bits_are : (types : Types) (bits : List (List (List DeviceBit))) (tile : ℕ) (o : Option (List DeviceBit)) → AreTypesOf device types → bits ≡ device_bits device → o ≡ kept_at bits types tile place → o ≡ bits_at device tile place
   bits_are types bits tile o are e h = h ∙ kept_is types bits tile are (e ∙ sym (ap (map (type_bits device.profile.rules)) are.once))
 
 -- the bits of the types of a device
-pub bits_are_of_types : (device : Device) (types : Types) (bits : List (List (List DeviceBit))) → AreTypesOf device types → bits ≡ map (type_bits device.profile.rules) types.types → bits ≡ bits_of_types device
+pub bits_are_of_types : (device : Device) (types : Types) (bits : List (List (List DeviceBit))) → AreTypesOf device types → bits ≡ map (type_bits device.profile.rules) types.types → bits ≡ device_bits device
 bits_are_of_types device types bits are e = e ∙ ap (map (type_bits device.profile.rules)) are.once

@@ -14,8 +14,8 @@ abbrev pub type_bits : Rules → TypeSlots → List (List DeviceBit)
 type_bits rules t = map (kept_bits rules) (option_map_or (λ db. db.muxes) t.db [])
 
 -- those of the types of a device, in order of first use of the types
-abbrev pub bits_of_types : Device → List (List (List DeviceBit))
-bits_of_types device = map (type_bits device.profile.rules) (types_of device (each_once [] (map (λ tile. tile.kind) device.grid.tiles)))
+abbrev pub device_bits : Device → List (List (List DeviceBit))
+device_bits device = map (type_bits device.profile.rules) (types_of device (each_once [] (map (λ tile. tile.kind) device.grid.tiles)))
 
 -- of bits by types, those of the mux at a place of the database of the tile of a number
 abbrev pub kept_at : List (List (List DeviceBit)) → Types → ℕ → ℕ → Option (List DeviceBit)

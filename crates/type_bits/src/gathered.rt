@@ -42,7 +42,7 @@ pub(crate) fn bits_of_types(
 }
 
 // The bits of the mux at a place.
-fn mux_bits(muxes: &DatabaseBits, place: u32) -> Option<&[PlaceBit]>
+fn bits_at_place(muxes: &DatabaseBits, place: u32) -> Option<&[PlaceBit]>
     ensures { option_map (λ bits. bits.now) result ≡ slice_get muxes.now place }
 {
     let bits = muxes.get(place as usize)?;
@@ -60,5 +60,5 @@ pub(crate) fn bits_of_tile<'n>(
 {
     let number = *types.tiles().get(tile.to_u32() as usize)?;
     let muxes = bits.get(number.to_u32() as usize)?;
-    mux_bits(muxes, place)
+    bits_at_place(muxes, place)
 }

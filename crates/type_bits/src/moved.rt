@@ -22,13 +22,13 @@ pub struct MovedBits<'n, 'a> {
 impl<'n, 'a> Model for MovedBits<'n, 'a> {
     ghost use Rattle.std.specs.Prelude.{◌≡◌};
     ghost use Rattle.device_numbers.specs.Numbered.{Numbered};
-    ghost use Rattle.type_bits.specs.TypeBits.{bits_of_types};
+    ghost use Rattle.type_bits.specs.TypeBits.{device_bits};
 
     ghost Value = { Numbered };
 
     ghost view = { λ m. m.named.now };
 
-    ghost invariant = { λ m. m.types.items ≡ bits_of_types m.named.now.device };
+    ghost invariant = { λ m. m.types.items ≡ device_bits m.named.now.device };
 }
 
 impl<'n, 'a> MovedBits<'n, 'a> {
