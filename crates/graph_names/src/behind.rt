@@ -13,7 +13,7 @@ use rr_ids::{ArcId, Id, MuxId, Name};
 use text_cut::PatternBit;
 
 // The record of a mux.
-fn mux_record<'d, D: TileDatabases>(device: &'d D, mux: &MuxInfo) -> Option<&'d Mux>
+fn mux_record<'a, D: TileDatabases<'a>>(device: &D, mux: &MuxInfo) -> Option<&'a Mux>
     ensures { option_copied result ≡ mux_record_in (D.device device.now) mux.now }
 {
     let names = device.names(mux.tile)?;
@@ -22,7 +22,7 @@ fn mux_record<'d, D: TileDatabases>(device: &'d D, mux: &MuxInfo) -> Option<&'d 
 }
 
 // The record of the mux of a number.
-fn mux_behind<'d, D: TileDatabases>(device: &'d D, muxes: &[MuxInfo], m: MuxId) -> Option<&'d Mux>
+fn mux_behind<'a, D: TileDatabases<'a>>(device: &D, muxes: &[MuxInfo], m: MuxId) -> Option<&'a Mux>
     ensures { option_copied result ≡ mux_behind_in (D.device device.now) muxes.now m }
 {
     let mux = muxes.get(m.to_u32() as usize)?;
@@ -30,12 +30,12 @@ fn mux_behind<'d, D: TileDatabases>(device: &'d D, muxes: &[MuxInfo], m: MuxId) 
 }
 
 // The record of the arc of a number.
-fn arc_behind<'d, D: TileDatabases>(
-    device: &'d D,
+fn arc_behind<'a, D: TileDatabases<'a>>(
+    device: &D,
     muxes: &[MuxInfo],
     arcs: &[ArcInfo],
     a: ArcId,
-) -> Option<&'d Arc>
+) -> Option<&'a Arc>
     ensures { option_copied result ≡ arc_behind_in (D.device device.now) muxes.now arcs.now a }
 {
     let arc = arcs.get(a.to_u32() as usize)?;
@@ -45,12 +45,12 @@ fn arc_behind<'d, D: TileDatabases>(
 
 /// The pattern of the arc of a number; where the muxes and arcs are those of the graph of the device, `None` exactly where there is
 /// no such arc. Takes no memory, and the same time for each arc.
-pub fn pattern_of<'d, D: TileDatabases>(
-    device: &'d D,
+pub fn pattern_of<'a, D: TileDatabases<'a>>(
+    device: &D,
     muxes: &[MuxInfo],
     arcs: &[ArcInfo],
     a: ArcId,
-) -> Option<&'d [PatternBit]>
+) -> Option<&'a [PatternBit]>
     ensures { (g : Graph) → AreArcsOf (D.device device.now) g muxes.now arcs.now
         → option_map (λ bits. bits.now) result ≡ option_map (λ x. x.arc.bits) (slice_get g.arcs a) }
 {
@@ -59,12 +59,12 @@ pub fn pattern_of<'d, D: TileDatabases>(
 }
 
 /// The name of the source of the arc of a number, as the database writes it; `None` as `pattern_of`.
-pub fn source_name<'d, D: TileDatabases>(
-    device: &'d D,
+pub fn source_name<'a, D: TileDatabases<'a>>(
+    device: &D,
     muxes: &[MuxInfo],
     arcs: &[ArcInfo],
     a: ArcId,
-) -> Option<&'d Name>
+) -> Option<&'a Name>
     ensures { (g : Graph) → AreArcsOf (D.device device.now) g muxes.now arcs.now
         → option_map (λ name. name.now) result ≡ option_map (λ x. x.arc.source) (slice_get g.arcs a) }
 {
@@ -74,11 +74,11 @@ pub fn source_name<'d, D: TileDatabases>(
 
 /// The name of the sink of the mux of a number, as the database writes it; where the muxes are those of the graph of the device,
 /// `None` exactly where there is no such mux.
-pub fn sink_name<'d, D: TileDatabases>(
-    device: &'d D,
+pub fn sink_name<'a, D: TileDatabases<'a>>(
+    device: &D,
     muxes: &[MuxInfo],
     m: MuxId,
-) -> Option<&'d Name>
+) -> Option<&'a Name>
     ensures { (g : Graph) → AreMuxesOf (D.device device.now) g muxes.now
         → option_map (λ name. name.now) result ≡ option_map (λ x. x.mux.sink) (slice_get g.muxes m) }
 {

@@ -9,16 +9,16 @@ use database_names::DatabaseNames;
 use rr_ids::TileId;
 use wire_names::LentRules;
 
-/// A device that lends the names of the databases of its tiles, and the rules of names.
-pub trait TileDatabases {
+/// A device that lends the names of the databases of its tiles, which are lent for `'a`, and the rules of names.
+pub trait TileDatabases<'a> {
     /// The device.
     ghost device: { Self → Device };
 
     /// The names of the database of a tile; `None` exactly where there is no such tile or its type has no database.
-    fn names(&self, t: TileId) -> Option<&DatabaseNames<'_>>
+    fn names(&self, t: TileId) -> Option<&DatabaseNames<'a>>
         ensures { option_copied result ≡ db_at (device self.now) t };
 
     /// The rules of names.
-    fn rules(&self) -> &LentRules<'_>
+    fn rules(&self) -> &LentRules<'a>
         ensures { result.now ≡ (device self.now).profile.rules };
 }

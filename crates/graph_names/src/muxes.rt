@@ -12,7 +12,7 @@ use rr_ids::{MuxId, Name, TileId};
 
 // The place of the first mux of a sink in the database of a tile.
 #[tactic(auto, using(crate::proofs::Found::place_found, crate::proofs::Found::no_place))]
-fn place_named<D: TileDatabases>(device: &D, t: TileId, sink: &Name) -> Option<usize>
+fn place_named<'a, D: TileDatabases<'a>>(device: &D, t: TileId, sink: &Name) -> Option<usize>
     ensures { result ≡ place_named_in (D.device device.now) t sink.now }
 {
     match device.names(t) {
@@ -24,7 +24,7 @@ fn place_named<D: TileDatabases>(device: &D, t: TileId, sink: &Name) -> Option<u
 /// The mux of a tile that drives the sink of a name; where the muxes are those of the graph of the device, `None` exactly where the
 /// tile has none. Takes no memory, and time in proportion to the logarithm of the number of muxes of the tile's type.
 #[tactic(auto, using(crate::proofs::Found::no_mux))]
-pub fn mux_named<D: TileDatabases>(
+pub fn mux_named<'a, D: TileDatabases<'a>>(
     device: &D,
     rows: &MuxRows,
     t: TileId,

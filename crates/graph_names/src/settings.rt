@@ -13,11 +13,11 @@ use rr_ids::{Name, TileId};
 
 /// The word of a name in a tile; `None` exactly where the tile has none.
 #[tactic(auto, using(crate::proofs::SettingsFound::word_found, crate::proofs::SettingsFound::no_word))]
-pub fn word_named<'d, D: TileDatabases>(
-    device: &'d D,
+pub fn word_named<'a, D: TileDatabases<'a>>(
+    device: &D,
     t: TileId,
     name: &Name,
-) -> Option<&'d WordSetting>
+) -> Option<&'a WordSetting>
     ensures { (g : Graph) → IsGraph (D.device device.now) g → option_copied result ≡ word_named_in (settings_at g t) name.now }
 {
     match device.names(t) {
@@ -28,11 +28,11 @@ pub fn word_named<'d, D: TileDatabases>(
 
 /// The enum of a name in a tile; `None` exactly where the tile has none.
 #[tactic(auto, using(crate::proofs::SettingsFound::enum_found, crate::proofs::SettingsFound::no_enum))]
-pub fn enum_named<'d, D: TileDatabases>(
-    device: &'d D,
+pub fn enum_named<'a, D: TileDatabases<'a>>(
+    device: &D,
     t: TileId,
     name: &Name,
-) -> Option<&'d EnumSetting>
+) -> Option<&'a EnumSetting>
     ensures { (g : Graph) → IsGraph (D.device device.now) g → option_copied result ≡ enum_named_in (settings_at g t) name.now }
 {
     match device.names(t) {
@@ -42,12 +42,12 @@ pub fn enum_named<'d, D: TileDatabases>(
 }
 
 /// The option of a value of the enum of a name in a tile; `None` exactly where there is no such enum or option.
-pub fn option_named<'d, D: TileDatabases>(
-    device: &'d D,
+pub fn option_named<'a, D: TileDatabases<'a>>(
+    device: &D,
     t: TileId,
     name: &Name,
     value: &Name,
-) -> Option<&'d EnumOption>
+) -> Option<&'a EnumOption>
     ensures { (g : Graph) → IsGraph (D.device device.now) g
         → option_copied result ≡ option_and_then (λ enum. option_of enum value.now) (enum_named_in (settings_at g t) name.now) }
 {

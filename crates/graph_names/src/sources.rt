@@ -27,7 +27,7 @@ fn arc_at<'a>(names: &DatabaseNames<'a>, place: usize, source: &Name) -> Option<
 }
 
 // The first arc of a mux from a source, whether or not the source is ignored.
-fn first_arc<'d, D: TileDatabases>(device: &'d D, mux: &MuxInfo, source: &Name) -> Option<&'d Arc>
+fn first_arc<'a, D: TileDatabases<'a>>(device: &D, mux: &MuxInfo, source: &Name) -> Option<&'a Arc>
     ensures { option_copied result ≡ option_and_then (λ mux. find (λ a. bytes_eq a.source source.now) mux.arcs) (mux_record (D.device device.now) mux.now) }
 {
     let names = device.names(mux.tile)?;
@@ -35,12 +35,12 @@ fn first_arc<'d, D: TileDatabases>(device: &'d D, mux: &MuxInfo, source: &Name) 
 }
 
 // The same of the mux of a number.
-fn arc_of<'d, D: TileDatabases>(
-    device: &'d D,
+fn arc_of<'a, D: TileDatabases<'a>>(
+    device: &D,
     muxes: &[MuxInfo],
     m: MuxId,
     source: &Name,
-) -> Option<&'d Arc>
+) -> Option<&'a Arc>
     ensures { option_copied result ≡ arc_named_behind (D.device device.now) muxes.now m source.now }
 {
     let mux = muxes.get(m.to_u32() as usize)?;
@@ -50,12 +50,12 @@ fn arc_of<'d, D: TileDatabases>(
 /// The pattern of the arc of a mux from the source of a name; where the muxes are those of the graph of the device, `None` exactly
 /// where the mux has no such arc. Takes no memory, and time in proportion to the logarithm of the number of arcs of the mux.
 #[tactic(auto, using(record_laws::proofs::ArcsFound::ignored_found))]
-pub fn pattern_named<'d, D: TileDatabases>(
-    device: &'d D,
+pub fn pattern_named<'a, D: TileDatabases<'a>>(
+    device: &D,
     muxes: &[MuxInfo],
     m: MuxId,
     source: &Name,
-) -> Option<&'d [PatternBit]>
+) -> Option<&'a [PatternBit]>
     ensures { (g : Graph) → AreMuxesOf (D.device device.now) g muxes.now
         → option_map (λ bits. bits.now) result ≡ option_map (λ a. a.arc.bits) (arc_named g m source.now) }
 {

@@ -7,14 +7,14 @@ use graph_names::TileDatabases;
 use rr_ids::TileId;
 use wire_names::LentRules;
 
-impl<'a> TileDatabases for NamedDevice<'a> {
+impl<'a> TileDatabases<'a> for NamedDevice<'a> {
     ghost device = { λ d. d.device };
 
-    fn names(&self, t: TileId) -> Option<&DatabaseNames<'_>> {
+    fn names(&self, t: TileId) -> Option<&DatabaseNames<'a>> {
         names_of_tile(self.names.as_slice(), self.numbers.types(), t)
     }
 
-    fn rules(&self) -> &LentRules<'_> {
+    fn rules(&self) -> &LentRules<'a> {
         &self.rules
     }
 }

@@ -45,8 +45,6 @@ pub(crate) fn names_of_tile<'n, 'a>(
     ensures { option_copied result ≡ kept_at names.now types.now tile }
 {
     let number = *types.tiles().get(tile.to_u32() as usize)?;
-    match names.get(number.to_u32() as usize) {
-        Some(Some(kept)) => Some(kept),
-        _ => None,
-    }
+    let kept = names.get(number.to_u32() as usize)?;
+    kept.as_ref()
 }
