@@ -15,7 +15,7 @@ use mux_rows::MuxInfo;
 use rr_ids::{ArcId, Id, MuxId, Name};
 
 // The place of the first arc from a source of the mux at a place of a database.
-#[tactic(auto, using(crate::proofs::Places::place_is, crate::proofs::Places::none_behind))]
+#[tactic(auto, using(crate::proofs::Places::none_behind))]
 fn place_at(names: &DatabaseNames<'_>, mux: usize, source: &Name) -> Option<usize>
     ensures { result ≡ option_and_then (λ m. position (λ a. bytes_eq a.source source.now) m.arcs) (slice_get names.now.muxes mux) }
 {

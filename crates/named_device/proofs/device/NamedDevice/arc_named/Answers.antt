@@ -4,7 +4,7 @@ use Rattle.fabric.specs.Wires.{wire_cmp}
 use Rattle.device_wires.specs.Named.{named_wires}
 use Rattle.device_numbers.specs.Numbered.{Numbered}
 use Rattle.named_device.proofs.ArcNames.{arc_found, no_arc}
-use Rattle.named_device.proofs.arcs.NamedDevice.arc_named.Goals as goal
+use Rattle.named_device.proofs.device.NamedDevice.arc_named.Goals as goal
 
 pub returns-in-Some : goal.returns-in-Some
 returns-in-Some c = λ g standing.
