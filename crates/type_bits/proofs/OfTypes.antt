@@ -8,7 +8,6 @@ use Rattle.records.specs.Grid.{Tile}
 use Rattle.fabric.specs.Device.{TypeDb, Device}
 use Rattle.record_laws.specs.KeptBits.{bits_at, bits_in, kept_bits}
 use Rattle.device_names.specs.Types.{type_named}
-use Rattle.tile_types.specs.Slots.{TypeSlots}
 use Rattle.tile_types.specs.Types.{Types, AreTypesOf, type_in}
 use Rattle.named_device.proofs.OfTypes.{by_number, type_is}
 use Rattle.type_bits.specs.TypeBits.{device_bits, kept_at, type_bits}
