@@ -11,6 +11,6 @@ pub returns : goal.returns
 returns c =
     let k = c.self.inside in
     let types = c.types.result.now in
-    let are = subst (λ (n : Numbered). AreTypesOf n.device types) c.numbers.ensures c.types.ensures in
+    let are = subst (λ (n : Numbered). AreTypesOf n.device types) c.numbers-numbers.ensures c.types.ensures in
     let kept = c.bits_of_tile.ensures ∙ ap (λ bits. kept_at bits types c.args.t c.args.place) c.as_slice.ensures.value in
     bits_are k.named.now.device c.args.place types k.types.items c.args.t (option_map (λ bits. bits.now) c.bits_of_tile.result) are c.self.invariant kept ∙ ap (λ (n : Numbered). bits_at n.device c.args.t c.args.place) c.self.view_is
