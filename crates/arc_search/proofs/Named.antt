@@ -1,11 +1,10 @@
 -- The arc of a name is the one whose place in the database is that of the first record of the name, and whose source is the wire of the
 -- name: of arcs of one mux from one source the one that stands first in the database comes first in arc order.
-use Rattle.std.proofs.Common.{◌≡◌, ℕ, ◌<◌, Bool, true, false, List, [], ◌&&◌, ◌⊎◌, inl, inr, length, map, filter_map, get_or, Option, None, Some, option_map, option_and_then, refl, sym, ap, subst, ◌∙◌, bytes_eq, arith}
+use Rattle.std.proofs.Common.{◌≡◌, ℕ, ◌<◌, Bool, true, false, List, [], ◌&&◌, ◌⊎◌, inl, inr, filter_map, Option, None, Some, option_map, option_and_then, refl, sym, ap, subst, ◌∙◌, bytes_eq, arith}
 use Rattle.std.specs.Prelude.{◌==◌, position, slice_get}
 use Rattle.std.specs.Ordering.{ordering_reverse}
 use Rattle.std.specs.Option.{option_map_or}
 use Rattle.std.specs.List.{enumerate_from}
-use Rattle.std.specs.declared.cmp.Ordering.{Ordering}
 use Rattle.std.specs.declared.cmp.Ordering.TheVariants.{Less, Equal, Greater}
 use Rattle.std.proofs.lemmas.Bool.{eqb-true, eq-eqb}
 use Rattle.std.proofs.lemmas.Option.{slice_get-map}
@@ -28,7 +27,7 @@ use Rattle.graph_lists.proofs.BitsOf.{numbers_in_order}
 use Rattle.graph_lists.proofs.Listed.{equal_is, less_is}
 use Rattle.bit_rows.proofs.Rising.{get_below, or_is, rising_at}
 use Rattle.mux_rows.specs.MuxTable.{MuxNumbers}
-use Rattle.record_laws.specs.Records.{AreArcsOf, mux_record}
+use Rattle.record_laws.specs.Records.{AreArcsOf}
 use Rattle.record_laws.proofs.MuxOf.{MuxOf}
 use Rattle.record_laws.proofs.Behind.{graph_mux, in_graph, number_at, of}
 use Rattle.record_laws.proofs.Firsts.{IsFirst, first_at, first_of, none_at, none_passes}
@@ -190,8 +189,8 @@ module _ (device : Device) (g : Graph) (muxes : List MuxNumbers) (arcs : List Ar
             let within = get_below g.arcs i y found.1.0 in
             first_at passes g.arcs i y found.1.0 (it_passes i y found.1.0 found.1.1)
             (λ k z sooner at_k t.
-                let less : arc_cmp z y ≡ Less = (λ j. arc_cmp (sym (or_is g.arcs k z z at_k) j) (sym (or_is g.arcs i y z found.1.0) j)) ∙ rising_at arc_cmp g.arcs k i z is.arcs.rising sooner within in
-                not_before y z found.1.1 (passing k z at_k t) less)
+            let less : arc_cmp z y ≡ Less = (λ j. arc_cmp (sym (or_is g.arcs k z z at_k) j) (sym (or_is g.arcs i y z found.1.0) j)) ∙ rising_at arc_cmp g.arcs k i z is.arcs.rising sooner within in
+            not_before y z found.1.1 (passing k z at_k t) less)
 
         number_is : (r : Option ℕ) → IsNumberOf arcs key r → r ≡ position passes g.arcs
         number_is None never = absurd (never in_arcs)

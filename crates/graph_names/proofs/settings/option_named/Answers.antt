@@ -1,4 +1,3 @@
-use Rattle.std.proofs.Common.{None}
 use Rattle.std.specs.Option.{option_copied}
 use Rattle.graph_names.proofs.SettingsFound.{no_option, option_found}
 use Rattle.graph_names.proofs.settings.option_named.Goals as goal
