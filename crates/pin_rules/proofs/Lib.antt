@@ -1,0 +1,4 @@
+pub mod Owning
+pub mod Reading
+pub mod Ignoring
+pub mod Finding
