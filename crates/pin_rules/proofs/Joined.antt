@@ -47,6 +47,11 @@ pub record IsRuleOf (c : Circuit) (feeds : List (Option ℕ)) (rule : PinRule) (
   pub pad_is : (i : ℕ) (pad : PadCell) → slice_get (pins c.cells) i ≡ Some (pad_pin pad) → pad_breaks rule pad (feed_source c.cells feeds i) ≡ true → OfPad pad
   pub pad_has : (i : ℕ) (pad : PadCell) → slice_get (pins c.cells) i ≡ Some (pad_pin pad) → OfPad pad → pad_breaks rule pad (feed_source c.cells feeds i) ≡ true
 
+-- no pin has the property, or the pin with this number is the least that has it
+abbrev pub FoundOf : Circuit → (PinRef → Type 0) → Option ℕ → Type 0
+FoundOf c Has None = (ref : PinRef) → Has ref → ⊥
+FoundOf c Has (Some n) = (p : Pin) × ((slice_get (pins c.cells) n ≡ Some p) × IsLeast pin_cmp Has p.ref)
+
 module _ (c : Circuit) (feeds : List (Option ℕ)) (read : List Bool) (owners : List PinOwner) (tells : Tells c feeds) (are : AreReadParts c.cells feeds read) (own : owners ≡ owners_of c.cells)
     (rule : PinRule) (pins_of : Source → List Pin) (Has : Source → Pin → Type 0) (OfPad : PadCell → Type 0) (law : IsRuleOf c feeds rule pins_of Has OfPad) where
   -- ---- from flags
@@ -102,11 +107,7 @@ module _ (c : Circuit) (feeds : List (Option ℕ)) (read : List Bool) (owners : 
 
   -- ---- the least
 
-  abbrev Found : Option ℕ → Type 0
-  Found None = (ref : PinRef) → OfReadPart c pins_of Has OfPad ref → ⊥
-  Found (Some n) = (p : Pin) × ((slice_get (pins c.cells) n ≡ Some p) × IsLeast pin_cmp (OfReadPart c pins_of Has OfPad) p.ref)
-
-  pub found : (r : Option ℕ) → LeastFlagged pin_order (pins c.cells) (λ i. flag_at rule c.cells feeds read owners i ≡ true) (length (pins c.cells)) r → Found r
+  pub found : (r : Option ℕ) → LeastFlagged pin_order (pins c.cells) (λ i. flag_at rule c.cells feeds read owners i ≡ true) (length (pins c.cells)) r → FoundOf c (OfReadPart c pins_of Has OfPad) r
   found None none = λ ref h. (let s = has_flag ref h in none s.0 (slice_get_within (pins c.cells) s.0 s.1.0 s.1.1.0) s.1.1.1.1)
   found (Some n) least = (least.item, (least.numbered, record {
     has = flag_has n least.item least.numbered least.flagged;

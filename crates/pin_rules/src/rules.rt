@@ -12,6 +12,7 @@ use rr_ids::{Domain, Id};
 
 /// A rule that pins may break: that pins are fed, that no clock is data, that feeds are of the own domain. The last knows for each
 /// part whether it is a voter.
+#[derive(Clone, Copy)]
 pub enum PinRule<'a> {
     Open,
     Clock,
