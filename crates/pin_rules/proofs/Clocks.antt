@@ -162,10 +162,10 @@ module _ (c : Circuit) (feeds : List (Option ℕ)) (read : List Bool) (tells : T
   is_flagged : (part : PartRef) → IsUnclocked c part → Seen part
   is_flagged part u =
       let k = read_flagged c feeds read tells are u.source u.read.read in
-      let no : not (is_clocked c.cells feeds k.0 u.register) ≡ true = fails (is_clocked c.cells feeds k.0 u.register) (λ h.
+      let still : not (is_clocked c.cells feeds k.0 u.register) ≡ true = fails (is_clocked c.cells feeds k.0 u.register) (λ h.
         let p = register_clocked c feeds tells k.0 u.source k.1.0 u.register u.is_register h in
         u.unclocked p.0 p.1.0 p.1.1) in
-      let kind : kind_unclocked c.cells feeds k.0 u.source.kind ≡ true = ap (kind_unclocked c.cells feeds k.0) u.is_register ∙ no in
+      let kind : kind_unclocked c.cells feeds k.0 u.source.kind ≡ true = ap (kind_unclocked c.cells feeds k.0) u.is_register ∙ still in
       (k.0, (u.source, (k.1.0, (u.is, ap (source_unclocked c.cells feeds read k.0) k.1.0 ∙ ap₂ (λ a b. a && b) k.1.1 kind))))
 
   no_part : ((i : ℕ) → i < length (sources c.cells) → unclocked_at c.cells feeds read i ≡ true → ⊥) → (x : Refusal) → RegistersUnclocked c x → ⊥

@@ -64,17 +64,17 @@ module _ {X : Type 0} (cmp : X → X → Ordering) (total : IsTotalOrder cmp) wh
   module _ (xs : List X) (flag : ℕ → Bool) (n : ℕ) (x : X) (at : slice_get xs n ≡ Some x) where
     -- the next element isn't flagged
     passed : (least : Option ℕ) → LeastFlagged cmp xs (λ i. flag i ≡ true) n least → flag n ≡ false → LeastFlagged cmp xs (λ i. flag i ≡ true) (n + 1) least
-    passed None so_far no = λ i below h. elim (split i n below) [
+    passed None so_far lowered = λ i below h. elim (split i n below) [
       | inl l ↦ so_far i l h
-      | inr e ↦ true_false (sym h ∙ (ap flag e ∙ no))
+      | inr e ↦ true_false (sym h ∙ (ap flag e ∙ lowered))
     ]
-    passed (Some m) so_far no = record {
+    passed (Some m) so_far lowered = record {
       item = so_far.item;
       numbered = so_far.numbered;
       flagged = so_far.flagged;
       least = λ i y below there h. elim (split i n below) [
         | inl l ↦ so_far.least i y l there h
-        | inr e ↦ absurd (true_false (sym h ∙ (ap flag e ∙ no)))
+        | inr e ↦ absurd (true_false (sym h ∙ (ap flag e ∙ lowered)))
       ];
     }
 
@@ -83,10 +83,10 @@ module _ {X : Type 0} (cmp : X → X → Ordering) (total : IsTotalOrder cmp) wh
 
     -- it is the first that is flagged
     begins : LeastFlagged cmp xs (λ i. flag i ≡ true) n None → flag n ≡ true → IsLeastFlagged cmp xs (λ i. flag i ≡ true) (n + 1) n
-    begins so_far yes = record {
+    begins so_far raised = record {
       item = x;
       numbered = at;
-      flagged = yes;
+      flagged = raised;
       least = λ i y below there h. elim (split i n below) [
         | inl l ↦ absurd (so_far i l h)
         | inr e ↦ subst (λ z. cmp x z ≢ Greater) (here i y e there) (itself x)
@@ -107,10 +107,10 @@ module _ {X : Type 0} (cmp : X → X → Ordering) (total : IsTotalOrder cmp) wh
 
     -- it comes before the least one
     moves : (m : ℕ) → (so_far : IsLeastFlagged cmp xs (λ i. flag i ≡ true) n m) → cmp so_far.item x ≡ Greater → flag n ≡ true → IsLeastFlagged cmp xs (λ i. flag i ≡ true) (n + 1) n
-    moves m so_far before yes = record {
+    moves m so_far before raised = record {
       item = x;
       numbered = at;
-      flagged = yes;
+      flagged = raised;
       least = λ i y below there h. elim (split i n below) [
         | inl l ↦ (
             let lower : cmp x so_far.item ≡ Less = total.antisymm x so_far.item ∙ ap ordering_reverse before in
@@ -123,15 +123,15 @@ module _ {X : Type 0} (cmp : X → X → Ordering) (total : IsTotalOrder cmp) wh
 
     taken_by : (m : ℕ) (so_far : IsLeastFlagged cmp xs (λ i. flag i ≡ true) n m) (b : Bool) → flag n ≡ true → is_gt (cmp so_far.item x) ≡ b → is_after cmp (slice_get xs m) (slice_get xs n) ≡ b
         → IsLeastFlagged cmp xs (λ i. flag i ≡ true) (n + 1) (if is_after cmp (slice_get xs m) (slice_get xs n) then n else m)
-    taken_by m so_far true yes gt is = subst (λ b. IsLeastFlagged cmp xs (λ i. flag i ≡ true) (n + 1) (if b then n else m)) (sym is) (moves m so_far (greater_is (cmp so_far.item x) gt) yes)
-    taken_by m so_far false yes gt is = subst (λ b. IsLeastFlagged cmp xs (λ i. flag i ≡ true) (n + 1) (if b then n else m)) (sym is) (stays m so_far (no_greater (cmp so_far.item x) gt))
+    taken_by m so_far true raised gt is = subst (λ b. IsLeastFlagged cmp xs (λ i. flag i ≡ true) (n + 1) (if b then n else m)) (sym is) (moves m so_far (greater_is (cmp so_far.item x) gt) raised)
+    taken_by m so_far false raised gt is = subst (λ b. IsLeastFlagged cmp xs (λ i. flag i ≡ true) (n + 1) (if b then n else m)) (sym is) (stays m so_far (no_greater (cmp so_far.item x) gt))
 
     -- the next element is flagged
     taken : (least : Option ℕ) → LeastFlagged cmp xs (λ i. flag i ≡ true) n least → flag n ≡ true → LeastFlagged cmp xs (λ i. flag i ≡ true) (n + 1) (Some (lesser_of cmp xs least n))
-    taken None so_far yes = begins so_far yes
-    taken (Some m) so_far yes =
+    taken None so_far raised = begins so_far raised
+    taken (Some m) so_far raised =
         let is : is_after cmp (slice_get xs m) (slice_get xs n) ≡ is_gt (cmp so_far.item x) = ap (λ o. is_after cmp o (slice_get xs n)) so_far.numbered ∙ ap (is_after cmp (Some so_far.item)) at in
-        taken_by m so_far (is_gt (cmp so_far.item x)) yes refl is
+        taken_by m so_far (is_gt (cmp so_far.item x)) raised refl is
 
     looked_at : (least : Option ℕ) (b : Bool) → LeastFlagged cmp xs (λ i. flag i ≡ true) n least → flag n ≡ b → LeastFlagged cmp xs (λ i. flag i ≡ true) (n + 1) (with_next cmp xs least n b)
     looked_at least true so_far is = taken least so_far is

@@ -79,14 +79,14 @@ module _ (c : Circuit) (feeds : List (Option ℕ)) (tells : Tells c feeds) where
     unfed_by (Some f) e h fed = true_false (sym h)
 
     by_unfed : (o : Option Source) → feed_source c.cells feeds i ≡ o → (Fed c.routing p.wire → ⊥) → is_unfed o ≡ true
-    by_unfed None e no = refl
-    by_unfed (Some f) e no = absurd (no ((fed_told c feeds tells i p at).1 (f, e)))
+    by_unfed None e none = refl
+    by_unfed (Some f) e none = absurd (none ((fed_told c feeds tells i p at).1 (f, e)))
 
     unfed : is_unfed (feed_source c.cells feeds i) ≡ true → Fed c.routing p.wire → ⊥
     unfed h = unfed_by (feed_source c.cells feeds i) refl h
 
     is_unfed_at : (Fed c.routing p.wire → ⊥) → is_unfed (feed_source c.cells feeds i) ≡ true
-    is_unfed_at no = by_unfed (feed_source c.cells feeds i) refl no
+    is_unfed_at none = by_unfed (feed_source c.cells feeds i) refl none
 
     clock_by : (o : Option Source) → feed_source c.cells feeds i ≡ o → is_clock_feed o ≡ true → FedByClock c p
     clock_by None e h = absurd (true_false (sym h))
@@ -141,7 +141,7 @@ module _ (c : Circuit) (feeds : List (Option ℕ)) (tells : Tells c feeds) where
         (ap₂ (λ a b. a && b) (is_unfed_at i p at has.0) (ap not (no_clock s p bit)))
         (fails (ignores_pin s.kind p.ref.pin) (λ h. has.1 (ignores_is c tells.formed s p (get_in (sources c.cells) k s there) mine h)));
     pad_is = λ i pad at h. unfed i (pad_pin pad) at h;
-    pad_has = λ i pad at no. is_unfed_at i (pad_pin pad) at no;
+    pad_has = λ i pad at none. is_unfed_at i (pad_pin pad) at none;
   }
 
   clock_rule : IsRuleOf c feeds Clock bit_pins (λ s p. FedByClock c p) (λ p. FedByClock c (pad_pin p))

@@ -81,17 +81,14 @@ none_raised count k h =
     true_false (sym h ∙ get_or-replicate count k false false below)
 
 -- exactly the parts that feed pins are raised
-pub flags_are : (cells : Cells) (feeds : List (Option ℕ)) (ss : List Source) (start read : List Bool) → ss ≡ sources cells → start ≡ replicate (length ss) false → read ≡ read_with start feeds → AreReadParts cells feeds read
-flags_are cells feeds ss start read all none is =
-    let count : length ss ≡ length (sources cells) = ap (λ xs. length xs) all in
-    let made : read ≡ read_with (replicate (length ss) false) feeds = is ∙ ap (λ xs. read_with xs feeds) none in
-    record {
-      long = ap (λ xs. length xs) made ∙ (length_read (replicate (length ss) false) feeds ∙ (length-replicate (length ss) false ∙ count));
-      flags = λ k below. (
-        (λ h. from_feed (replicate (length ss) false) feeds k (none_raised (length ss) k) (subst (λ xs. get_or xs k false ≡ true) made h)),
-        (λ i. subst (λ xs. get_or xs k false ≡ true) (sym made) (raised (replicate (length ss) false) feeds k (subst (λ n. k < n) (sym (length-replicate (length ss) false ∙ count)) below) i)),
-      );
-    }
+pub flags_are : (cells : Cells) (feeds : List (Option ℕ)) (count : ℕ) (read : List Bool) → count ≡ length (sources cells) → read ≡ read_with (replicate count false) feeds → AreReadParts cells feeds read
+flags_are cells feeds count read many made = record {
+  long = ap (λ xs. length xs) made ∙ (length_read (replicate count false) feeds ∙ (length-replicate count false ∙ many));
+  flags = λ k below. (
+    (λ h. from_feed (replicate count false) feeds k (none_raised count k) (subst (λ xs. get_or xs k false ≡ true) made h)),
+    (λ i. subst (λ xs. get_or xs k false ≡ true) (sym made) (raised (replicate count false) feeds k (subst (λ n. k < n) (sym (length-replicate count false ∙ many)) below) i)),
+  );
+}
 
 -- ---- what this says of a circuit
 

@@ -43,6 +43,19 @@ fn mark_all(read: &mut [bool], feeds: &[Option<SourceId>])
     }
 }
 
+// The flags of so many parts, raised where they feed pins.
+fn raised(
+    alloc: Global,
+    count: usize,
+    feeds: &[Option<SourceId>],
+) -> Result<Vec<bool>, AllocError>
+    ensures { IfOk result (λ v. v.items ≡ read_with (replicate count false) feeds.now) }
+{
+    let mut read = none(alloc, count)?;
+    mark_all(&mut read, feeds);
+    Ok(read)
+}
+
 /// For each part whether it is read: whether it feeds a pin, by the parts that feed pins. Takes time in proportion to parts and
 /// pins.
 #[tactic(auto, using(crate::proofs::Reading::flags_are))]
@@ -53,7 +66,6 @@ pub fn read_parts(
 ) -> Result<Vec<bool>, AllocError>
     ensures { IfOk result (λ v. AreReadParts parts.now feeds.now v.items) }
 {
-    let mut read = none(alloc, parts.sources().len())?;
-    mark_all(&mut read, feeds);
+    let read = raised(alloc, parts.sources().len(), feeds)?;
     Ok(read)
 }

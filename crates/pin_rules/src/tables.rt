@@ -9,7 +9,8 @@ use cell_parts::TableCell;
 // A power of 2.
 fn power(n: u32) -> u32
     requires { n ≤ 4 }
-    ensures { result ≡ 2 ^ n }
+    ensures value { result ≡ 2 ^ n }
+    ensures few { result ≤ 16 }
 {
     match n {
         0 => 1,
