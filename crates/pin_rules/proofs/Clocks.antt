@@ -163,8 +163,8 @@ module _ (c : Circuit) (feeds : List (Option ℕ)) (read : List Bool) (tells : T
   is_flagged part u =
       let k = read_flagged c feeds read tells are u.source u.read.read in
       let still : not (is_clocked c.cells feeds k.0 u.register) ≡ true = fails (is_clocked c.cells feeds k.0 u.register) (λ h.
-        let p = register_clocked c feeds tells k.0 u.source k.1.0 u.register u.is_register h in
-        u.unclocked p.0 p.1.0 p.1.1) in
+      let p = register_clocked c feeds tells k.0 u.source k.1.0 u.register u.is_register h in
+      u.unclocked p.0 p.1.0 p.1.1) in
       let kind : kind_unclocked c.cells feeds k.0 u.source.kind ≡ true = ap (kind_unclocked c.cells feeds k.0) u.is_register ∙ still in
       (k.0, (u.source, (k.1.0, (u.is, ap (source_unclocked c.cells feeds read k.0) k.1.0 ∙ ap₂ (λ a b. a && b) k.1.1 kind))))
 
@@ -173,12 +173,18 @@ module _ (c : Circuit) (feeds : List (Option ℕ)) (read : List Bool) (tells : T
 
   pub part_found : (r : Option ℕ) → LeastFlagged part_order (sources c.cells) (λ k. unclocked_at c.cells feeds read k ≡ true) (length (sources c.cells)) r → FindsPart c (RegistersUnclocked c) NotClocked r
   part_found None none = no_part none
-  part_found (Some n) least = (least.item, (least.numbered, unclocked least.item.part (record {
-    has = flagged_is n least.item least.numbered least.flagged;
-    least = λ part h.
-        let s = is_flagged part h in
-        subst (λ x. part_cmp least.item.part x ≢ Greater) s.1.1.1.0 (least.least s.0 s.1.0 (slice_get_within (sources c.cells) s.0 s.1.0 s.1.1.0) s.1.1.0 s.1.1.1.1);
-  })))
+  part_found (Some n) least = (
+    least.item,
+    (
+      least.numbered,
+      unclocked least.item.part (record {
+        has = flagged_is n least.item least.numbered least.flagged;
+        least = λ part h.
+            let s = is_flagged part h in
+            subst (λ x. part_cmp least.item.part x ≢ Greater) s.1.1.1.0 (least.least s.0 s.1.0 (slice_get_within (sources c.cells) s.0 s.1.0 s.1.1.0) s.1.1.0 s.1.1.1.1);
+      }),
+    ),
+  )
 
 pub unclocked_answer : (cells : Cells) (feeds : List (Option ℕ)) (read : List Bool) (r : Option ℕ) → AreReadParts cells feeds read
     → LeastFlagged part_order (sources cells) (λ k. unclocked_at cells feeds read k ≡ true) (length (sources cells)) r → (c : Circuit) → c.cells ≡ cells → Tells c feeds → FindsPart c (RegistersUnclocked c) NotClocked r

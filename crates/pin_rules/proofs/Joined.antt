@@ -109,9 +109,15 @@ module _ (c : Circuit) (feeds : List (Option ℕ)) (read : List Bool) (owners : 
 
   pub found : (r : Option ℕ) → LeastFlagged pin_order (pins c.cells) (λ i. flag_at rule c.cells feeds read owners i ≡ true) (length (pins c.cells)) r → FoundOf c (OfReadPart c pins_of Has OfPad) r
   found None none = λ ref h. (let s = has_flag ref h in none s.0 (slice_get_within (pins c.cells) s.0 s.1.0 s.1.1.0) s.1.1.1.1)
-  found (Some n) least = (least.item, (least.numbered, record {
-    has = flag_has n least.item least.numbered least.flagged;
-    least = λ ref h.
-        let s = has_flag ref h in
-        subst (λ x. pin_cmp least.item.ref x ≢ Greater) s.1.1.1.0 (least.least s.0 s.1.0 (slice_get_within (pins c.cells) s.0 s.1.0 s.1.1.0) s.1.1.0 s.1.1.1.1);
-  }))
+  found (Some n) least = (
+    least.item,
+    (
+      least.numbered,
+      record {
+        has = flag_has n least.item least.numbered least.flagged;
+        least = λ ref h.
+            let s = has_flag ref h in
+            subst (λ x. pin_cmp least.item.ref x ≢ Greater) s.1.1.1.0 (least.least s.0 s.1.0 (slice_get_within (pins c.cells) s.0 s.1.0 s.1.1.0) s.1.1.0 s.1.1.1.1);
+      },
+    ),
+  )

@@ -133,9 +133,10 @@ module _ (c : Circuit) (feeds : List (Option ℕ)) (tells : Tells c feeds) where
     listed = bit_listed;
     part_is = λ i k s p at there mine h.
         let outer = both (is_unfed (feed_source c.cells feeds i) && not (is_clock_pin s.kind p.ref.pin)) (not (ignores_pin s.kind p.ref.pin)) h in
-        let inner = both (is_unfed (feed_source c.cells feeds i)) (not (is_clock_pin s.kind p.ref.pin)) outer.0 in
-        (bit_pin s p mine (not_true (is_clock_pin s.kind p.ref.pin) inner.1),
-        (unfed i p at inner.0, λ ignored. true_false (sym (is_ignored c tells.formed s p (get_in (sources c.cells) k s there) mine ignored) ∙ not_true (ignores_pin s.kind p.ref.pin) outer.1)));
+        let inner = both (is_unfed (feed_source c.cells feeds i)) (not (is_clock_pin s.kind p.ref.pin)) outer.0 in (
+          bit_pin s p mine (not_true (is_clock_pin s.kind p.ref.pin) inner.1),
+          (unfed i p at inner.0, λ ignored. true_false (sym (is_ignored c tells.formed s p (get_in (sources c.cells) k s there) mine ignored) ∙ not_true (ignores_pin s.kind p.ref.pin) outer.1)),
+        );
     part_has = λ i k s p at there mine bit has.
         ap₂ (λ a b. a && b)
         (ap₂ (λ a b. a && b) (is_unfed_at i p at has.0) (ap not (no_clock s p bit)))

@@ -13,7 +13,10 @@ use circuit_parts::{Parts, PinId, SourceId, compare_pins};
 use rr_ids::Id;
 
 /// The part with a number, or none.
-pub(crate) fn source_at<'s, 'a>(sources: &'s [Source<'a>], k: Option<SourceId>) -> Option<&'s Source<'a>>
+pub(crate) fn source_at<'s, 'a>(
+    sources: &'s [Source<'a>],
+    k: Option<SourceId>,
+) -> Option<&'s Source<'a>>
     ensures { option_copied result ≡ option_and_then (slice_get sources.now) k }
 {
     match k {

@@ -44,11 +44,7 @@ fn mark_all(read: &mut [bool], feeds: &[Option<SourceId>])
 }
 
 // The flags of so many parts, raised where they feed pins.
-fn raised(
-    alloc: Global,
-    count: usize,
-    feeds: &[Option<SourceId>],
-) -> Result<Vec<bool>, AllocError>
+fn raised(alloc: Global, count: usize, feeds: &[Option<SourceId>]) -> Result<Vec<bool>, AllocError>
     ensures { IfOk result (λ v. v.items ≡ read_with (replicate count false) feeds.now) }
 {
     let mut read = none(alloc, count)?;

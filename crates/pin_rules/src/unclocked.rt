@@ -63,12 +63,7 @@ fn is_unclocked(
 }
 
 // Whether the part with a number is read, and a register that no clock feeds.
-fn unclocked_at(
-    parts: &Parts<'_>,
-    feeds: &[Option<SourceId>],
-    read: &[bool],
-    place: usize,
-) -> bool
+fn unclocked_at(parts: &Parts<'_>, feeds: &[Option<SourceId>], read: &[bool], place: usize) -> bool
     requires { place < length (sources_of parts.now) }
     ensures { result ≡ is_unclocked_at parts.now feeds.now read.now place }
 {
@@ -127,11 +122,7 @@ fn with_part(
 }
 
 // The least part that is read, and a register that no clock feeds.
-fn least_unclocked(
-    parts: &Parts<'_>,
-    feeds: &[Option<SourceId>],
-    read: &[bool],
-) -> Option<SourceId>
+fn least_unclocked(parts: &Parts<'_>, feeds: &[Option<SourceId>], read: &[bool]) -> Option<SourceId>
     ensures { LeastFlagged part_order (sources_of parts.now) (λ k. is_unclocked_at parts.now feeds.now read.now k ≡ true) (length (sources_of parts.now)) result }
 {
     let mut least = None;
@@ -144,11 +135,7 @@ fn least_unclocked(
 
 /// The least register that is read and that no clock pad clocks; `None` exactly where there is none. Takes time in proportion to the
 /// parts.
-pub fn not_clocked(
-    parts: &Parts<'_>,
-    feeds: &[Option<SourceId>],
-    read: &[bool],
-) -> Option<SourceId>
+pub fn not_clocked(parts: &Parts<'_>, feeds: &[Option<SourceId>], read: &[bool]) -> Option<SourceId>
     requires { AreReadParts parts.now feeds.now read.now }
     ensures { (c : Circuit) → c.cells ≡ parts.now → Tells c feeds.now → FindsPart c (RegistersUnclocked c) NotClocked result }
 {

@@ -4,4 +4,4 @@ use Rattle.pin_rules.proofs.owners.add_part.Given as goal
 
 -- the part was added so many times
 abbrev pub invariant-loop-place : goal.invariant-loop-place
-invariant-loop-place l = l.owners.items ≡ l.fn.owners.items ++ replicate l.place (Part l.part)
+invariant-loop-place l = l.owners.items ≡ l.fn.owners.items ++ replicate l._place (Part l.part)
