@@ -16,7 +16,7 @@ use Rattle.design_checks.specs.Checks.{Passes, IsLeast}
 use Rattle.design_checks.specs.PinChecks.{IsOnLoop, TablesLoop, loop}
 use Rattle.pin_feeds.specs.Told.{Tells}
 use Rattle.net_order.specs.Orders.{AreInNameOrder, IsLinked}
-use Rattle.net_order.proofs.Reads.{link_reads, reading_links}
+use Rattle.net_order.proofs.ReadTables.{link_reads, reading_links}
 use Rattle.net_order.proofs.TableOrder.{one_number, tables_rise, itself}
 
 some_same : {X : Type 0} (x y : X) → Some x ≡ Some y → x ≡ y
@@ -32,7 +32,7 @@ module _ (c : Circuit) (feeds : List (Option ℕ)) (tells : Tells c feeds) where
   -- a path of links is one in the circuit
   path_is : (w : ℕ) (x : Source) → slice_get (sources c.cells) w ≡ Some x → (v : ℕ) → Reaches Linked w v → (y : Source) × ((slice_get (sources c.cells) v ≡ Some y) × Reaches (IsReadBy c) x y)
   path_is w x at _ here = (x, (at, here))
-  path_is w x at _ (onto {b} {d} path step) =
+  path_is w x at _ (onto {b = b} {c = d} path step) =
       let b' = path_is w x at b path in
       let r = link_reads c feeds tells b d step in
       let same : r.0 ≡ b'.0 = some_same r.0 b'.0 (sym r.1.1.0 ∙ b'.1.0) in
@@ -54,7 +54,7 @@ module _ (c : Circuit) (feeds : List (Option ℕ)) (tells : Tells c feeds) where
     -- a path through tables is one of links
     is_path : (k : ℕ) (x : Source) → slice_get (sources c.cells) k ≡ Some x → IsTable x → (y : Source) → Reaches (IsReadBy c) x y → (m : ℕ) × ((slice_get (sources c.cells) m ≡ Some y) × (Reaches Linked k m × IsTable y))
     is_path k x at table _ here = (k, (at, (here, table)))
-    is_path k x at table _ (onto {b} {y} path step) =
+    is_path k x at table _ (onto {b = b} {c = y} path step) =
         let p = is_path k x at table b path in
         let n = number_there (sources c.cells) y step.listed in
         let l = reading_links c feeds tells n.0 b y n.1 step in

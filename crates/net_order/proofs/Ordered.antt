@@ -12,7 +12,6 @@ use Rattle.design_checks.specs.Checks.{Passes}
 use Rattle.design_checks.specs.PinChecks.{TablesLoop}
 use Rattle.pin_feeds.specs.Told.{Tells}
 use Rattle.net_order.specs.declared.feeding.TableLink.{TableLink}
-use Rattle.net_order.specs.declared.error.OrderError.TheVariants.{Loop}
 use Rattle.net_order.specs.Links.{links_with}
 use Rattle.net_order.specs.Orders.{AreInNameOrder, IsLinked, Refuses}
 use Rattle.net_order.proofs.BothEnds.{of_ends, to_ends}
@@ -21,7 +20,7 @@ use Rattle.net_order.proofs.Loops.{least_loop, no_loop}
 -- paths of one kind of steps are paths of another where the steps are
 mapped : {X : Type 0} (Step Other : X → X → Type 0) → ((u v : X) → Step u v → Other u v) → (u v : X) → Reaches Step u v → Reaches Other u v
 mapped Step Other f u _ here = here
-mapped Step Other f u _ (onto {b} {d} path step) = onto (mapped Step Other f u b path) (f b d step)
+mapped Step Other f u _ (onto {b = b} {c = d} path step) = onto (mapped Step Other f u b path) (f b d step)
 
 module _ (cells : Cells) (feeds : List (Option ℕ)) (links : List TableLink) (is : links ≡ links_with cells feeds) (froms tos : List ℕ) (froms_are : froms ≡ map (λ l. l.source) links) (tos_are : tos ≡ map (λ l. l.table) links) where
   lead_linked : (u v : ℕ) → Leads froms tos u v → IsLinked cells feeds u v
@@ -57,15 +56,16 @@ pub passed : (cells : Cells) (feeds : List (Option ℕ)) → ((v : ℕ) → IsOn
 passed cells feeds none c same tells order =
     no_loop c feeds tells (subst AreInNameOrder (sym same) order) (subst (λ x. (v : ℕ) → IsOnCycle (IsLinked x feeds) v → ⊥) (sym same) none)
 
-pub refused : (cells : Cells) (feeds : List (Option ℕ)) (v : ℕ) → IsLeastOnCycle (IsLinked cells feeds) v → (c : Circuit) → c.cells ≡ cells → Tells c feeds → AreInNameOrder cells → Refuses c (Loop v)
-refused cells feeds v least c same tells order =
+pub refused : (cells : Cells) (feeds : List (Option ℕ)) (e : NodeError) → RefusesNodes (IsLinked cells feeds) e → (c : Circuit) → c.cells ≡ cells → Tells c feeds → AreInNameOrder cells → Refuses c e
+refused cells feeds (nodes.Loop v) least c same tells order =
     least_loop c feeds tells (subst AreInNameOrder (sym same) order) v (subst (λ x. IsLeastOnCycle (IsLinked x feeds) v) (sym same) least)
+refused cells feeds nodes.Memory least c same tells order = tt
 
 -- what an order by ends answers, for links
 module _ (cells : Cells) (feeds : List (Option ℕ)) (links : List TableLink) (is : links ≡ links_with cells feeds) (froms tos : List ℕ) (froms_are : froms ≡ map (λ l. l.source) links) (tos_are : tos ≡ map (λ l. l.table) links) where
-  pub ok_linked : {V E : Type 0} (items : V → List ℕ) (r : Result V E) (count many : ℕ) → count ≡ many → IfOk r (λ v. IsOrder count (Leads froms tos) (items v)) → IfOk r (λ v. IsOrder many (IsLinked cells feeds) (items v))
-  ok_linked items (Ok v) count many e h = subst (λ n. IsOrder n (IsLinked cells feeds) (items v)) e (order_linked cells feeds links is froms tos froms_are tos_are count (items v) h)
-  ok_linked items (Err x) count many e h = tt
+  pub ok_linked : {V E : Type 0} (r : Result V E) (items : V → List ℕ) (count many : ℕ) → count ≡ many → IfOk r (λ v. IsOrder count (Leads froms tos) (items v)) → IfOk r (λ v. IsOrder many (IsLinked cells feeds) (items v))
+  ok_linked (Ok v) items count many e h = subst (λ n. IsOrder n (IsLinked cells feeds) (items v)) e (order_linked cells feeds links is froms tos froms_are tos_are count (items v) h)
+  ok_linked (Err x) items count many e h = tt
 
   pub answer_linked : {V : Type 0} (r : Result V NodeError) → MatchResult r (λ _. (v : ℕ) → IsOnCycle (Leads froms tos) v → ⊥) (RefusesNodes (Leads froms tos))
       → MatchResult r (λ _. (v : ℕ) → IsOnCycle (IsLinked cells feeds) v → ⊥) (RefusesNodes (IsLinked cells feeds))

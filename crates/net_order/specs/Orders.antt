@@ -8,9 +8,9 @@ use Rattle.circuit.specs.Parts.{Source, sources}
 use Rattle.circuit.specs.Circuits.{Circuit}
 use Rattle.answers.specs.Refusals as refusals
 use Rattle.design_checks.specs.PinChecks.{TablesLoop}
+use Rattle.cycle_order.specs.declared.error.OrderError.{OrderError}
+use Rattle.cycle_order.specs.declared.error.OrderError.TheVariants.{Loop, Memory}
 use Rattle.net_order.specs.Links.{links_with}
-use Rattle.net_order.specs.declared.error.OrderError.{OrderError}
-use Rattle.net_order.specs.declared.error.OrderError.TheVariants.{Loop, Memory}
 
 -- a part feeds a pin of a table, both by number
 abbrev pub IsLinked : Cells → List (Option ℕ) → ℕ → ℕ → Type 0

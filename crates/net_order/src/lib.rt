@@ -3,12 +3,10 @@
 #![tactic(auto)]
 
 mod ends;
-mod error;
 mod feeding;
+mod in_order;
 mod laws;
-mod levels;
 
-pub use error::OrderError;
 pub use feeding::{TableLink, table_links};
+pub use in_order::levels;
 pub use laws::links_tell_reading;
-pub use levels::levels;

@@ -1,4 +1,4 @@
-use Rattle.net_order.proofs.Reads.{known, link_reads, reading_links}
+use Rattle.net_order.proofs.ReadTables.{known, link_reads, reading_links}
 use Rattle.net_order.proofs.laws.links_tell_reading.Goals as goal
 
 pub returns : goal.returns

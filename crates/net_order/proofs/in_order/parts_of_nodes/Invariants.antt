@@ -1,5 +1,5 @@
 use Rattle.std.proofs.Common.{◌≡◌, take}
-use Rattle.net_order.proofs.levels.parts_of_nodes.Given as goal
+use Rattle.net_order.proofs.in_order.parts_of_nodes.Given as goal
 
 -- the nodes so far
 abbrev pub invariant-loop-node : goal.invariant-loop-node

@@ -13,9 +13,8 @@ ghost use Rattle.pin_feeds.specs.Told.{Tells};
 
 use crate::ends::{link_sources, link_tables};
 use crate::feeding::{TableLink, table_links};
-use crate::error::OrderError;
 use circuit_parts::{Parts, SourceId};
-use cycle_order::{NodeId, OrderError as NodeError, order};
+use cycle_order::{NodeId, OrderError, order};
 use rr_ids::Id;
 use std::alloc::{AllocError, Global};
 
@@ -41,7 +40,7 @@ fn nodes_in_order(
     alloc: Global,
     parts: &Parts<'_>,
     feeds: &[Option<SourceId>],
-) -> Result<Vec<NodeId>, NodeError>
+) -> Result<Vec<NodeId>, OrderError>
     requires long { length feeds.now ≡ length (pins_in parts.now) }
     requires known { AreKnown parts.now feeds.now }
     ensures order { IfOk result (λ v. IsOrder (length (sources_of parts.now)) (IsLinked parts.now feeds.now) v.items) }
@@ -65,7 +64,7 @@ fn parts_of_nodes(alloc: Global, nodes: &[NodeId]) -> Result<Vec<SourceId>, Allo
 }
 
 /// All parts with an output, by number, each table after the parts that feed its pins. `Loop` exactly where a table reaches
-/// itself, with the least that does; `feeds` has for each pin the part that feeds it. Takes time in proportion to parts and pins
+/// itself, with the number of the least that does; `feeds` has for each pin the part that feeds it. Takes time in proportion to parts and pins
 /// where no table feeds many; before a `Loop` also a walk along all links for each table below it that lies between two loops.
 pub fn levels(
     alloc: Global,
@@ -77,12 +76,7 @@ pub fn levels(
     ensures order { IfOk result (λ v. IsOrder (length (sources_of parts.now)) (IsLinked parts.now feeds.now) v.items) }
     ensures answer { (c : Circuit) → c.cells ≡ parts.now → Tells c feeds.now → AreInNameOrder parts.now → MatchResult result (λ _. Passes (TablesLoop c)) (Refuses c) }
 {
-    match nodes_in_order(alloc, parts, feeds) {
-        Ok(nodes) => {
-            let order = parts_of_nodes(alloc, &nodes)?;
-            Ok(order)
-        }
-        Err(NodeError::Loop(node)) => Err(OrderError::Loop(SourceId::from_u32(node.to_u32()))),
-        Err(NodeError::Memory) => Err(OrderError::Memory),
-    }
+    let nodes = nodes_in_order(alloc, parts, feeds)?;
+    let order = parts_of_nodes(alloc, &nodes)?;
+    Ok(order)
 }
