@@ -88,16 +88,22 @@ module _ (c : Circuit) (feeds : List (Option ℕ)) (tells : Tells c feeds) where
 
     -- the least on a cycle of links is the least on a loop
     pub least_loop : (v : ℕ) → IsLeastOnCycle Linked v → (s : Source) × ((slice_get (sources c.cells) v ≡ Some s) × TablesLoop c (Loop s.part))
+    unfolding step_source cycle_loops
     least_loop v least =
         let s = step_source v least.on.0 least.on.1.0 in
         let has = cycle_loops v s.0 s.1 least.on in
-        let own = loop_cycles s.0.part has in
-        (s.0, (s.1, loop s.0.part (record {
-          has = has;
-          least = λ part l. (
-              let other = loop_cycles part l in
-              let is_table : IsTable s.0 = own.1.1.1 in
-              subst (λ p. part_cmp s.0.part p ≢ Greater) l.is
-              (by_numbers v other.0 s.0 l.source is_table.0 other.1.1.1.0 (least.least other.0 other.1.1.0) s.1 other.1.0 is_table.1 other.1.1.1.1)
-              );
-        })))
+        let own = loop_cycles s.0.part has in (
+          s.0,
+          (
+            s.1,
+            loop s.0.part (record {
+              has = has;
+              least = λ part l. (
+                  let other = loop_cycles part l in
+                  let is_table : IsTable s.0 = own.1.1.1 in
+                  subst (λ p. part_cmp s.0.part p ≢ Greater) l.is
+                  (by_numbers v other.0 s.0 l.source is_table.0 other.1.1.1.0 (least.least other.0 other.1.1.0) s.1 other.1.0 is_table.1 other.1.1.1.1)
+                  );
+            }),
+          ),
+        )

@@ -152,15 +152,26 @@ module _ (c : Circuit) (feeds : List (Option ℕ)) (tells : Tells c feeds) where
       let t = table_of s.kind r.1.1.1.0 in
       let mine : In (source_pins s) p.0 = subst (λ ps. In ps p.0) (cut m s r.1.1.0) (to_range (pins c.cells) (first_pin c.cells m) (first_pin c.cells (m + 1)) q.0 p.0 q.1.0 p.1) in
       let takes : In (table_pins s.part t.0) p.0 = elim (in_either (table_pins s.part t.0) [] p.0 (subst (λ ps. In ps p.0) (own_pins s t.0 t.1) mine)) [ inl a ↦ a | inr a ↦ absurd a ] in
-      let told : feed_source c.cells feeds i ≡ Some feed.0 = ap (option_and_then (slice_get (sources c.cells))) (get_or_from_slice_get feeds i (Some j) None q.1.1) ∙ feed.1.0 in
-      (feed.0, (s, (feed.1.0, (subst (λ n. slice_get (sources c.cells) n ≡ Some s) (sym here) r.1.1.0, record {
-        table = t.0;
-        is_table = t.1;
-        listed = get_in (sources c.cells) m s r.1.1.0;
-        pin = p.0;
-        takes = takes;
-        connects = (connects_told c feeds tells i p.0 feed.0 p.1).1 told;
-      }))))
+      let told : feed_source c.cells feeds i ≡ Some feed.0 = ap (option_and_then (slice_get (sources c.cells))) (get_or_from_slice_get feeds i (Some j) None q.1.1) ∙ feed.1.0 in (
+        feed.0,
+        (
+          s,
+          (
+            feed.1.0,
+            (
+              subst (λ n. slice_get (sources c.cells) n ≡ Some s) (sym here) r.1.1.0,
+              record {
+                table = t.0;
+                is_table = t.1;
+                listed = get_in (sources c.cells) m s r.1.1.0;
+                pin = p.0;
+                takes = takes;
+                connects = (connects_told c feeds tells i p.0 feed.0 p.1).1 told;
+              },
+            ),
+          ),
+        ),
+      )
 
   linked_by : (i k q : ℕ) (u s : Source) (t : TableCell) (feed : Option ℕ) → i ≡ first_pin c.cells k + q → q < first_pin c.cells (k + 1) - first_pin c.cells k → slice_get (sources c.cells) k ≡ Some s → s.kind ≡ OfTable t
       → i < length feeds → get_or feeds i None ≡ feed → option_and_then (slice_get (sources c.cells)) feed ≡ Some u → (j : ℕ) × ((slice_get (sources c.cells) j ≡ Some u) × IsLinked c.cells feeds j k)
