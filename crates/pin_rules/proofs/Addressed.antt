@@ -1,5 +1,5 @@
 -- Bits of pins and their addresses: whether a table ignores a pin.
-use Rattle.std.proofs.Common.{◌≡◌, ℕ, zero, suc, ◌+◌, ◌*◌, ◌/◌, ◌%◌, ◌^◌, ◌<◌, ◌≤◌, Bool, true, false, eqb, List, [], ◌∷◌, length, map, ◌⊎◌, inl, inr, refl, sym, ap, ap₂, subst, ◌∙◌, arith, eq-eqb}
+use Rattle.std.proofs.Common.{◌≡◌, ℕ, zero, suc, ◌+◌, ◌*◌, ◌/◌, ◌%◌, ◌^◌, ◌<◌, ◌≤◌, Bool, true, false, eqb, List, [], ◌∷◌, length, ◌⊎◌, inl, inr, refl, sym, ap, ap₂, subst, ◌∙◌, arith}
 use Rattle.std.specs.Prelude.{◌==◌, ◌&&◌, if◌then◌else◌, slice_set, min, nat_lt}
 use Rattle.std.specs.Int.{bit_at}
 use Rattle.std.specs.List.{list_all, range_with_len}
@@ -7,7 +7,7 @@ use Rattle.std.proofs.lemmas.Bool.Decides.{nat_tests}
 use Rattle.std.proofs.lemmas.Nat.Bits.{bit_at_lowest, bit_at-suc, bit_at-lt}
 use native.Mathlib.Nat.{pow-suc}
 use Rattle.circuit.specs.Cells.{TableCell}
-use Rattle.circuit.specs.Worlds.{address, word_bit}
+use Rattle.circuit.specs.Worlds.{address}
 use Rattle.circuit.specs.Parts.{OfTable}
 use Rattle.circuit.specs.Tables.{Ignores}
 use Rattle.pin_rules.specs.Rules.{addresses, same_at, table_ignores}

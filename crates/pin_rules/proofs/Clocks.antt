@@ -3,19 +3,18 @@ use Rattle.std.proofs.Common.{◌≡◌, ◌≢◌, ℕ, zero, suc, ◌+◌, ◌
 use Rattle.std.specs.Prelude.{◌&&◌, not, slice_get}
 use Rattle.std.specs.List.{flat_map}
 use Rattle.std.specs.declared.cmp.Ordering.TheVariants.{Greater}
-use Rattle.std.proofs.lemmas.List.{append_assoc, length-append, append-nil}
+use Rattle.std.proofs.lemmas.List.{append_assoc, length-append}
 use Rattle.std.proofs.lemmas.Option.{slice_get_within}
 use Rattle.words.specs.Members.{In}
 use Rattle.circuit.specs.Cells.{Input, InputWire, InputNotWire, InputZero, InputOne, RegisterCell, Cells}
 use Rattle.circuit.specs.Parts.{PartRef, Kind, OfTable, OfRegister, OfInput, OfClock, Source, sources, output_pads}
 use Rattle.circuit.specs.Pins.{Pin, pad_pin, pins, pin_at, input_pin, data_pins, bit_pins_of, clock_pins_of, clock_pins, source_pins}
 use Rattle.circuit.specs.Circuits.{Circuit}
-use Rattle.circuit.specs.Triplicated.{FedByClock, ReadPart}
+use Rattle.circuit.specs.Triplicated.{FedByClock}
 use Rattle.circuit_parts.specs.Flat.{first_pin}
 use Rattle.fabric_laws.proofs.Numbered.{get_in}
 use Rattle.attempts.specs.PinOrder.{part_cmp}
 use Rattle.answers.specs.Refusals.{Refusal, NotClocked}
-use Rattle.design_checks.specs.Checks.{IsLeast}
 use Rattle.design_checks.specs.PinChecks.{IsUnclocked, RegistersUnclocked, unclocked}
 use Rattle.pin_feeds.specs.PinFeeds.{feed_source}
 use Rattle.pin_feeds.specs.Told.{Tells}

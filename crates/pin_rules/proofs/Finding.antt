@@ -1,5 +1,5 @@
 -- The least flagged element.
-use Rattle.std.proofs.Common.{◌≡◌, ◌≢◌, ℕ, zero, suc, ◌+◌, ◌<◌, Bool, true, false, List, [], ◌∷◌, length, map, cond, Option, None, Some, option_map, ◌⊎◌, inl, inr, refl, sym, ap, subst, ◌∙◌, arith, Bor}
+use Rattle.std.proofs.Common.{◌≡◌, ◌≢◌, ℕ, zero, suc, ◌+◌, ◌<◌, Bool, true, false, List, [], ◌∷◌, length, map, Option, None, Some, option_map, ◌⊎◌, inl, inr, refl, sym, ap, subst, ◌∙◌, arith, Bor}
 use Rattle.std.specs.Prelude.{slice_get, if◌then◌else◌}
 use Rattle.std.specs.declared.cmp.Ordering.{Ordering}
 use Rattle.std.specs.declared.cmp.Ordering.TheVariants.{Less, Equal, Greater}
@@ -9,8 +9,6 @@ use Rattle.std.specs.Cmp.Lexicographic.{nat_list_cmp_total}
 use Rattle.std.proofs.lemmas.Option.{slice_get-map}
 use Rattle.links.proofs.Members.{same_number}
 use Rattle.circuit.specs.Cells.{PadCell}
-use Rattle.circuit.specs.Parts.{PartRef, Source}
-use Rattle.circuit.specs.Pins.{Pin, PinRef}
 use Rattle.attempts.specs.PinOrder.{rank_of, number_of, part_cmp, pin_cmp}
 use Rattle.pin_rules.specs.Least.{IsLeastFlagged, LeastFlagged, is_after, lesser_of, part_order, pin_order, with_next}
 

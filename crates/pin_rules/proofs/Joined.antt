@@ -1,6 +1,6 @@
 -- Pins that are flagged, and the properties that checks refuse.
-use Rattle.std.proofs.Common.{◌≡◌, ◌≢◌, ◌↔◌, ℕ, ◌<◌, Bool, true, false, List, length, get_or, Option, None, Some, option_and_then, inl, inr, refl, sym, ap, ap₂, subst, ◌∙◌}
-use Rattle.std.specs.Prelude.{◌&&◌, not, slice_get}
+use Rattle.std.proofs.Common.{◌≡◌, ◌≢◌, ℕ, Bool, true, false, List, length, get_or, Option, None, Some, refl, sym, ap, ap₂, subst, ◌∙◌}
+use Rattle.std.specs.Prelude.{◌&&◌, slice_get}
 use Rattle.std.specs.declared.cmp.Ordering.TheVariants.{Greater}
 use Rattle.std.proofs.lemmas.Option.{slice_get_within}
 use Rattle.words.specs.Members.{In}
@@ -8,10 +8,8 @@ use Rattle.fabric_laws.proofs.Numbered.{get_in, number_there}
 use Rattle.circuit.specs.Cells.{PadCell}
 use Rattle.circuit.specs.Parts.{Source, sources, output_pads}
 use Rattle.circuit.specs.Pins.{Pin, PinRef, pad_pin, pins, source_pins}
-use Rattle.circuit.specs.Circuits.{Circuit, IsRead}
-use Rattle.circuit.specs.Triplicated.{ReadPart}
+use Rattle.circuit.specs.Circuits.{Circuit}
 use Rattle.attempts.specs.PinOrder.{pin_cmp}
-use Rattle.answers.specs.Refusals.{Refusal}
 use Rattle.design_checks.specs.Checks.{IsLeast}
 use Rattle.design_checks.specs.PinChecks.{OfReadPart, of_part, of_pad}
 use Rattle.pin_feeds.specs.PinFeeds.{feed_source}

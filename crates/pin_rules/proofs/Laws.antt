@@ -1,19 +1,17 @@
 -- What the rules of pins say of a circuit.
 use Rattle.std.proofs.Common.{◌≡◌, ℕ, Bool, true, false, List, length, get_or, Option, None, Some, refl, sym, ap, ap₂, subst, ◌∙◌, Bor}
 use Rattle.std.specs.Prelude.{◌&&◌, not, slice_get}
-use Rattle.words.specs.Members.{In}
 use Rattle.records.specs.Side.{Domain, D0, D1, D2}
 use Rattle.links.specs.Links.{Fed}
-use Rattle.circuit.specs.Cells.{PadCell, Cells}
+use Rattle.circuit.specs.Cells.{Cells}
 use Rattle.circuit.specs.Parts.{Kind, OfTable, OfRegister, OfInput, OfClock, Source, sources}
-use Rattle.circuit.specs.Pins.{Pin, PinRef, pad_pin, pins, bit_pins, source_pins}
-use Rattle.circuit.specs.Circuits.{Circuit, Connects}
+use Rattle.circuit.specs.Pins.{Pin, pad_pin, pins, bit_pins, source_pins}
+use Rattle.circuit.specs.Circuits.{Circuit}
 use Rattle.circuit.specs.Domains.{HasDomain}
 use Rattle.circuit.specs.Tables.{Ignores}
 use Rattle.circuit.specs.Triplicated.{FedByClock, IsVoter}
 use Rattle.fabric_laws.proofs.Numbered.{get_in}
 use Rattle.answers.specs.Refusals.{Refusal, OpenPin, ClockAsData, ForeignRead}
-use Rattle.design_checks.specs.Checks.{Passes}
 use Rattle.design_checks.specs.PinChecks.{PinsOpen, open_pin, IsOpen, ClocksAsData, clock, TakesClock, PinsForeign, foreign, ReadsForeign}
 use Rattle.pin_feeds.specs.PinFeeds.{feed_source}
 use Rattle.pin_feeds.specs.Told.{Tells}
@@ -23,7 +21,7 @@ use Rattle.pin_rules.specs.declared.rules.PinRule.{PinRule}
 use Rattle.pin_rules.specs.declared.rules.PinRule.TheVariants.{Open, Clock, Foreign}
 use Rattle.pin_rules.specs.Owners.{owners_of}
 use Rattle.pin_rules.specs.ReadParts.{AreReadParts}
-use Rattle.pin_rules.specs.Rules.{breaks, ignores_pin, is_clock, is_clock_feed, is_clock_pin, is_foreign_feed, is_unfed, same_domain}
+use Rattle.pin_rules.specs.Rules.{ignores_pin, is_clock, is_clock_feed, is_clock_pin, is_foreign_feed, is_unfed, same_domain}
 use Rattle.pin_rules.specs.Flags.{flag_at}
 use Rattle.pin_rules.specs.Voters.{AreVoters}
 use Rattle.pin_rules.specs.Least.{FindsPin, LeastFlagged, pin_order}

@@ -1,10 +1,9 @@
 -- Which pins are of which part, by the list of owners.
-use Rattle.std.proofs.Common.{◌≡◌, ℕ, zero, suc, ◌+◌, List, [], ◌∷◌, ◌++◌, length, map, replicate, Option, None, Some, ◌⊎◌, inl, inr, refl, sym, ap, ap₂, subst, ◌∙◌, arith}
+use Rattle.std.proofs.Common.{◌≡◌, ℕ, zero, suc, ◌+◌, List, [], ◌∷◌, ◌++◌, length, map, replicate, None, Some, ◌⊎◌, inl, inr, refl, sym, ap, ap₂, subst, ◌∙◌, arith}
 use Rattle.std.specs.Prelude.{slice_get}
 use Rattle.std.specs.List.{flat_map, zip}
-use Rattle.std.proofs.lemmas.List.{append_assoc, length-replicate}
+use Rattle.std.proofs.lemmas.List.{append_assoc}
 use Rattle.words.specs.Members.{In}
-use Rattle.links.proofs.Members.{in_left, in_right, in_either}
 use Rattle.circuit.specs.Cells.{PadCell, Cells}
 use Rattle.circuit.specs.Parts.{Source, numbered, sources, output_pads}
 use Rattle.circuit.specs.Pins.{Pin, pad_pin, pins, source_pins}

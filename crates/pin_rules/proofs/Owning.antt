@@ -1,14 +1,13 @@
 -- The owners of pins.
-use Rattle.std.proofs.Common.{◌≡◌, ℕ, zero, suc, ◌+◌, ◌<◌, ◌≤◌, ◌^◌, List, [], ◌∷◌, ◌++◌, length, get_or, drop, map, replicate, Option, Some, None, option_map, refl, sym, ap, subst, ◌∙◌, arith}
+use Rattle.std.proofs.Common.{◌≡◌, ℕ, zero, suc, ◌+◌, ◌<◌, ◌≤◌, ◌^◌, List, [], ◌∷◌, ◌++◌, length, get_or, drop, replicate, Some, option_map, refl, sym, ap, ◌∙◌, arith}
 use Rattle.std.specs.Prelude.{slice_get}
 use Rattle.std.proofs.lemmas.List.{append-nil, append_assoc, drop_all, drop_more, length-drop}
 use Rattle.std.proofs.lemmas.Option.{slice_get-get_or}
 use Rattle.circuit.specs.Cells.{Cells}
-use Rattle.circuit.specs.Parts.{Source, sources, output_pads}
-use Rattle.circuit.specs.Pins.{Pin, pad_pin, pins, source_pins}
-use Rattle.circuit_parts.specs.Flat.{first_pin}
+use Rattle.circuit.specs.Parts.{Source}
+use Rattle.circuit.specs.Pins.{Pin, pins, source_pins}
 use Rattle.pin_rules.specs.declared.owners.PinOwner.{PinOwner}
-use Rattle.pin_rules.specs.declared.owners.PinOwner.TheVariants.{Part, Pad}
+use Rattle.pin_rules.specs.declared.owners.PinOwner.TheVariants.{Part}
 use Rattle.pin_rules.specs.Owners.{owners_from}
 
 some_pins : (a b : List Pin) → Some a ≡ Some b → a ≡ b

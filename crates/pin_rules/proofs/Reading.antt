@@ -1,5 +1,5 @@
 -- Parts that are read.
-use Rattle.std.proofs.Common.{◌≡◌, ◌≢◌, ◌↔◌, ℕ, zero, suc, ◌+◌, ◌<◌, ◌≤◌, Bool, true, false, List, [], ◌∷◌, length, get_or, drop, replicate, Option, Some, None, option_and_then, inl, inr, refl, sym, ap, subst, ◌∙◌, arith}
+use Rattle.std.proofs.Common.{◌≡◌, ℕ, zero, suc, ◌+◌, ◌<◌, ◌≤◌, Bool, true, false, List, [], ◌∷◌, length, get_or, drop, replicate, Option, Some, None, option_and_then, inl, inr, refl, sym, ap, subst, ◌∙◌, arith}
 use Rattle.std.specs.Prelude.{slice_get, slice_set}
 use Rattle.std.proofs.lemmas.List.{drop_more, drop_all, length-replicate, length-set, get_or-set_same, get_or-set_other, get_or-replicate}
 use Rattle.std.proofs.lemmas.Option.{get_or_from_slice_get, slice_get-get_or, slice_get_within}
@@ -9,7 +9,6 @@ use Rattle.circuit.specs.Cells.{Cells}
 use Rattle.circuit.specs.Parts.{Source, sources}
 use Rattle.circuit.specs.Circuits.{Circuit, IsRead}
 use Rattle.fabric_laws.proofs.Numbered.{get_in, number_there}
-use Rattle.pin_feeds.specs.PinFeeds.{feed_source}
 use Rattle.pin_feeds.specs.Told.{Tells}
 use Rattle.pin_feeds.proofs.Connected.{read_told}
 use Rattle.pin_rules.specs.ReadParts.{AreReadParts, read_with}
