@@ -1,1 +1,7 @@
 pub mod Linked
+pub mod BothEnds
+pub mod Few
+pub mod ReadTables
+pub mod TableOrder
+pub mod Loops
+pub mod Ordered

@@ -1,0 +1,10 @@
+pub mod Owning
+pub mod Reading
+pub mod Ignoring
+pub mod Finding
+pub mod Addressed
+pub mod Owned
+pub mod PinKinds
+pub mod Joined
+pub mod Laws
+pub mod Clocks
