@@ -1,0 +1,3 @@
+pub mod Bits
+pub mod Reached
+pub mod Tied
