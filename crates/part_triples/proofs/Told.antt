@@ -1,22 +1,23 @@
 -- What the numbers of triples tell.
 use Rattle.std.proofs.Common.{◌≡◌, ◌↔◌, ◌+◌, ◌<◌, ◌≤◌, ℕ, Bool, true, false, cond, List, [], ◌∷◌, length, map, get_or, position, nat_lt, bytes_eq, find, unwrap_or, Option, Some, None, refl, sym, ap, subst, ◌∙◌, Bor, ◌⊎◌, inl, inr, arith}
-use Rattle.std.specs.Prelude.{slice_get}
+use Rattle.std.specs.Prelude.{IsTrue, slice_get}
 use Rattle.std.specs.List.{position_or_len}
 use Rattle.std.specs.BTreeMap.{BTreeMap}
 use Rattle.std.proofs.lemmas.Bool.{false≢true}
 use Rattle.std.proofs.lemmas.List.Folds.{find_at}
 use Rattle.std.proofs.lemmas.List.Quantifiers.{position-Some}
-use Rattle.std.proofs.lemmas.Option.{get_or_from_slice_get, slice_get_within}
+use Rattle.std.specs.Option.{option_map}
+use Rattle.std.proofs.lemmas.Option.{get_or_from_slice_get, slice_get-map}
 use Rattle.std.proofs.lemmas.Slice.Eq.{bytes_eq-Decides}
 use Rattle.words.specs.Members.{In}
 use Rattle.records.specs.Side.{Triple, Side}
 use Rattle.circuit.specs.Parts.{Source}
-use Rattle.circuit.specs.Triples.{all_triples, is_entry, triple_with}
+use Rattle.circuit.specs.Triples.{all_triples, is_entry, triple_of, triple_with}
 use Rattle.fabric_laws.proofs.Members.{find_from, any_to}
 use Rattle.fabric_laws.proofs.Numbered.{at_position, position_there, get_in}
 use Rattle.links.proofs.Members.{same_number}
 use Rattle.part_triples.specs.Places.{HoldsPlaces, place_in}
-use Rattle.part_triples.specs.Numbers.{number_of, numbers_of, SameCells}
+use Rattle.part_triples.specs.Numbers.{number_of, numbers_of, SameCells, AreCopies}
 
 map_same : {X Y : Type 0} (f g : X → Y) → ((x : X) → f x ≡ g x) → (xs : List X) → map f xs ≡ map g xs
 map_same f g h [] = refl
@@ -72,9 +73,8 @@ none_found p xs h = none_found_by p xs (find p xs) h refl
 
 -- ---- two names
 
-alone : List ℕ → Triple
-unfolding alone
-alone name = record { first = name; second = name; third = name }
+pub names_same : (x y : List ℕ) (r : Bool) → r ≡ bytes_eq x y → IsTrue r ↔ (x ≡ y)
+names_same x y r is = ((λ h. (bytes_eq-Decides x y).0 (sym is ∙ h)), (λ e. is ∙ (bytes_eq-Decides x y).1 e))
 
 some_triple : (a b : Triple) → Some a ≡ Some b → a ≡ b
 some_triple a b h = cc
@@ -133,3 +133,51 @@ module _ (side : Side) (a b : List ℕ) where
 
   pub same_told : SameCells (number_of side a) (number_of side b) a b ↔ (triple_with side a ≡ triple_with side b)
   same_told = by (number_of side a) (number_of side b) refl refl
+
+-- parts of one kind and number in cells of one triple
+pub parts_told : (side : Side) (s u : Source) → ((s.part.part ≡ u.part.part) × SameCells (number_of side s.part.cell) (number_of side u.part.cell) s.part.cell u.part.cell) ↔ (triple_of side s.part ≡ triple_of side u.part)
+parts_told side s u = (
+  (λ h i. record { cells = (same_told side s.part.cell u.part.cell).0 h.1 i; part = h.0 i }),
+  (λ e. (ap (λ t. t.part) e, (same_told side s.part.cell u.part.cell).1 (ap (λ t. t.cells) e))),
+)
+
+number_at : (side : Side) (ss : List Source) (k : ℕ) (s : Source) → slice_get ss k ≡ Some s → get_or (numbers_of side ss) k None ≡ number_of side s.part.cell
+number_at side ss k s there = get_or_from_slice_get (numbers_of side ss) k (number_of side s.part.cell) None (slice_get-map (λ (x : Source). number_of side x.part.cell) ss k ∙ ap (option_map (λ (x : Source). number_of side x.part.cell)) there)
+
+some_source : (a b : Source) → Some a ≡ Some b → a ≡ b
+some_source a b h = cc
+
+pub no_first : (side : Side) (ss : List Source) (i j : ℕ) → None ≡ slice_get ss i → IsTrue false ↔ AreCopies side ss i j
+no_first side ss i j none = ((λ h. absurd (false≢true h)), (λ x. absurd (none_some x.first (none ∙ x.first_at))))
+
+pub no_second : (side : Side) (ss : List Source) (i j : ℕ) → None ≡ slice_get ss j → IsTrue false ↔ AreCopies side ss i j
+no_second side ss i j none = ((λ h. absurd (false≢true h)), (λ x. absurd (none_some x.second (none ∙ x.second_at))))
+
+module _ (side : Side) (ss : List Source) (numbers : List (Option ℕ)) (i j : ℕ) (s u : Source) (m n : Option ℕ) (r : Bool) (are : numbers ≡ numbers_of side ss) (at_i : Some s ≡ slice_get ss i) (at_j : Some u ≡ slice_get ss j)
+    (m_is : m ≡ get_or numbers i None) (n_is : n ≡ get_or numbers j None) (told : IsTrue r ↔ ((s.part.part ≡ u.part.part) × SameCells m n s.part.cell u.part.cell)) where
+  m_told : m ≡ number_of side s.part.cell
+  m_told = m_is ∙ (ap (λ ns. get_or ns i None) are ∙ number_at side ss i s (sym at_i))
+
+  n_told : n ≡ number_of side u.part.cell
+  n_told = n_is ∙ (ap (λ ns. get_or ns j None) are ∙ number_at side ss j u (sym at_j))
+
+  abbrev Cells : Option ℕ → Option ℕ → Type 0
+  Cells a b = SameCells a b s.part.cell u.part.cell
+
+  -- two parts that are there
+  pub copies_told : IsTrue r ↔ AreCopies side ss i j
+  copies_told = (
+    (λ h. record {
+      first = s;
+      second = u;
+      first_at = sym at_i;
+      second_at = sym at_j;
+      same = (let x = told.0 h in (parts_told side s u).0 (x.0, subst (λ b. Cells (number_of side s.part.cell) b) n_told (subst (λ a. Cells a n) m_told x.1)));
+    }),
+    (λ x.
+      let first : x.first ≡ s = some_source x.first s (sym x.first_at ∙ sym at_i) in
+      let second : x.second ≡ u = some_source x.second u (sym x.second_at ∙ sym at_j) in
+      let same : triple_of side s.part ≡ triple_of side u.part = sym (ap (λ (z : Source). triple_of side z.part) first) ∙ (x.same ∙ ap (λ (z : Source). triple_of side z.part) second) in
+      let y = (parts_told side s u).1 same in
+      told.1 (y.0, subst (λ b. Cells m b) (sym n_told) (subst (λ a. Cells a (number_of side u.part.cell)) (sym m_told) y.1))),
+  )

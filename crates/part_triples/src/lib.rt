@@ -1,9 +1,10 @@
 //! The triple of cells in which each part with an output stands, by numbers.
 #![tactic(auto)]
 
-mod listed;
+mod alike;
+mod names;
 mod numbers;
-mod places;
+mod part_numbers;
 mod triples;
 
 pub use numbers::{CellTripleId, OfCellTriple};

@@ -1,3 +1,4 @@
 pub mod Bits
 pub mod Reached
 pub mod Tied
+pub mod Fed

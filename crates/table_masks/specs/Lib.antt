@@ -1,4 +1,3 @@
 pub mod Masking
 pub mod Pins
 pub mod Reaching
-pub mod Laws

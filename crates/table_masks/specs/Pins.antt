@@ -3,6 +3,7 @@ use Rattle.std.specs.Prelude.{◌≡◌, ℕ, ◌<◌, ◌≤◌, List, slice_ge
 use Rattle.records.specs.Side as side_of
 use Rattle.circuit.specs.Parts.{Source}
 use Rattle.circuit.specs.Triples.{triple_of}
+use Rattle.part_triples.specs.Numbers.{AreCopies}
 use Rattle.rr_ids.specs.Domains.{domain_of}
 use Rattle.rr_ids.specs.declared.domain.Domain.{Domain}
 use Rattle.table_masks.specs.declared.table_pin.TablePin.{TablePin}
@@ -11,6 +12,16 @@ use Rattle.table_masks.specs.declared.table_pin.TablePin.TheVariants.{Open, Fed}
 -- the part with the number that stands at a place
 abbrev pub fed_by : List Source → List (Option ℕ) → ℕ → Option Source
 fed_by all feeds i = option_and_then (slice_get all) (get_or feeds i None)
+
+-- a part that feeds a pin has one triple with the part of this number
+abbrev pub FeedAlike : side_of.Side → List Source → Option ℕ → ℕ → Type 0
+FeedAlike side all None part = ⊥
+FeedAlike side all (Some other) part = AreCopies side all other part
+
+-- the least pin that is fed so, before the place, or the place
+pub record IsFirstAlike (side : side_of.Side) (all : List Source) (feeds : List (Option ℕ)) (part place first : ℕ) : Type 0 where
+  pub alike : first < place → FeedAlike side all (get_or feeds first None) part
+  pub least : (j : ℕ) → j < first → FeedAlike side all (get_or feeds j None) part → ⊥
 
 -- parts of one triple feed two pins
 pub record SameFeed (side : side_of.Side) (fed : ℕ → Option Source) (i j : ℕ) : Type 0 where

@@ -1,6 +1,6 @@
 //! Tables whose output one other domain changes.
 #![tactic(auto)]
 
-mod laws;
 mod masking;
+mod pins;
 mod table_pin;

@@ -1,6 +1,6 @@
 use Rattle.std.proofs.Common.{◌≡◌, ◌++◌, drop, map}
 use Rattle.part_triples.specs.Places.{place_in}
-use Rattle.part_triples.proofs.triples.numbers.Given as goal
+use Rattle.part_triples.proofs.part_numbers.numbers.Given as goal
 
 -- the numbers so far, and those of the parts that are left
 abbrev pub invariant-loop-source : goal.invariant-loop-source

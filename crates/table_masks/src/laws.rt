@@ -1,7 +1,0 @@
-//! Laws.
-
-ghost use Rattle.table_masks.specs.Laws.{IsTied};
-
-pub fn tied()
-    ensures { IsTied }
-{}
