@@ -1,6 +1,6 @@
 //! What stands at the pins of a table, by the parts that feed them.
 
-ghost use Rattle.std.specs.Prelude.{◌≡◌, ◌↔◌, ◌<◌, ◌≤◌, IfOk, IsTrue, length, slice_get};
+ghost use Rattle.std.specs.Prelude.{◌≡◌, ◌↔◌, ◌<◌, ◌≤◌, IfOk, IsTrue, None, get_or, length, slice_get};
 ghost use Rattle.std.specs.Option.{option_copied};
 ghost use Rattle.circuit.specs.Parts.{sources as sources_of};
 ghost use Rattle.part_triples.specs.Numbers.{numbers_of};
@@ -13,6 +13,14 @@ use circuit_parts::{Parts, SourceId};
 use part_triples::PartTriples;
 use rr_ids::Id;
 use std::alloc::{AllocError, Global};
+
+// The part that feeds a pin.
+fn feed_at(feeds: &[Option<SourceId>], place: usize) -> Option<SourceId>
+    requires { place < length feeds.now }
+    ensures { result ≡ get_or feeds.now place None }
+{
+    feeds[place]
+}
 
 // Whether a part of the same triple as another one feeds a pin.
 fn is_alike(
@@ -42,7 +50,7 @@ fn first_alike(
     ensures first { (side : SideRecord) → triples.now ≡ numbers_of side (sources_of parts.now) → IsFirstAlike side (sources_of parts.now) feeds.now part place result }
 {
     for i in 0..place {
-        if is_alike(parts, triples, feeds[i], part) {
+        if is_alike(parts, triples, feed_at(feeds, i), part) {
             return i;
         }
     }
@@ -66,7 +74,7 @@ fn table_pin(
     requires { place < length feeds.now }
     ensures { (side : SideRecord) → triples.now ≡ numbers_of side (sources_of parts.now) → PinTold side (fed_by (sources_of parts.now) feeds.now) place result }
 {
-    match feeds[place] {
+    match feed_at(feeds, place) {
         None => TablePin::Open,
         Some(part) => match source_at(parts.sources(), part) {
             None => TablePin::Open,
