@@ -1,5 +1,5 @@
 -- The least read table that doesn't mask another domain.
-use Rattle.std.proofs.Common.{◌≡◌, ◌≢◌, ◌↔◌, ℕ, suc, ◌+◌, ◌<◌, ◌≤◌, Bool, true, false, List, length, get_or, Option, None, Some, ◌⊎◌, inl, inr, refl, sym, ap, subst, ◌∙◌, arith}
+use Rattle.std.proofs.Common.{◌≡◌, ◌≢◌, ◌↔◌, ℕ, zero, suc, ◌+◌, ◌<◌, ◌≤◌, Bool, true, false, List, [], ◌∷◌, length, get_or, Option, None, Some, ◌⊎◌, inl, inr, refl, sym, ap, subst, ◌∙◌, arith}
 use Rattle.std.specs.Prelude.{slice_get}
 use Rattle.std.specs.declared.cmp.Ordering.{Ordering}
 use Rattle.std.specs.declared.cmp.Ordering.TheVariants.{Less, Equal, Greater}
@@ -27,6 +27,11 @@ part_total = then_total (on_total (λ p. p.cell) nat_list_cmp_total) (then_total
 
 some_source : (a b : Source) → Some a ≡ Some b → a ≡ b
 some_source a b h = cc
+
+pub element : (all : List Source) (i : ℕ) → i < length all → (s : Source) × (slice_get all i ≡ Some s)
+element [] i h = absurd (omega arith)
+element (s ∷ ss) zero h = (s, refl)
+element (s ∷ ss) (suc i) h = element ss i (omega arith)
 
 split : (i n : ℕ) → i < n + 1 → (i < n) ⊎ (i ≡ n)
 split i n h = elim (same_number i n) [ inl e ↦ inr e | inr other ↦ inl (omega arith) ]
