@@ -95,15 +95,14 @@ module _ (side : Side) (a b : List ℕ) where
   both : (i j : ℕ) → number_of side a ≡ Some i → number_of side b ≡ Some j → (i ≡ j) ↔ (triple_with side a ≡ triple_with side b)
   both i j h k =
       let f = first_there (is_entry a) all i h in
-      let g = first_there (is_entry b) all j k in
-      (
+      let g = first_there (is_entry b) all j k in (
         (λ e. with_first a i f ∙ (some_triple f.triple g.triple (sym f.stands ∙ (ap (slice_get all) e ∙ g.stands)) ∙ sym (with_first b j g))),
         (λ e.
-          let same : f.triple ≡ g.triple = sym (with_first a i f) ∙ (e ∙ with_first b j g) in
-          elim (same_number i j) [
-            | inl s ↦ s
-            | inr other ↦ absurd (apart i j other (not_before a b i j f g same) (not_before b a j i g f (sym same)))
-          ]),
+            let same : f.triple ≡ g.triple = sym (with_first a i f) ∙ (e ∙ with_first b j g) in
+            elim (same_number i j) [
+              | inl s ↦ s
+              | inr other ↦ absurd (apart i j other (not_before a b i j f g same) (not_before b a j i g f (sym same)))
+            ]),
       )
     where
       apart : (i j : ℕ) → (i ≡ j → ⊥) → (i < j → ⊥) → (j < i → ⊥) → ⊥
@@ -175,9 +174,9 @@ module _ (side : Side) (ss : List Source) (numbers : List (Option ℕ)) (i j : �
       same = (let x = told.0 h in (parts_told side s u).0 (x.0, subst (λ b. Cells (number_of side s.part.cell) b) n_told (subst (λ a. Cells a n) m_told x.1)));
     }),
     (λ x.
-      let first : x.first ≡ s = some_source x.first s (sym x.first_at ∙ sym at_i) in
-      let second : x.second ≡ u = some_source x.second u (sym x.second_at ∙ sym at_j) in
-      let same : triple_of side s.part ≡ triple_of side u.part = sym (ap (λ (z : Source). triple_of side z.part) first) ∙ (x.same ∙ ap (λ (z : Source). triple_of side z.part) second) in
-      let y = (parts_told side s u).1 same in
-      told.1 (y.0, subst (λ b. Cells m b) (sym n_told) (subst (λ a. Cells a (number_of side u.part.cell)) (sym m_told) y.1))),
+        let first : x.first ≡ s = some_source x.first s (sym x.first_at ∙ sym at_i) in
+        let second : x.second ≡ u = some_source x.second u (sym x.second_at ∙ sym at_j) in
+        let same : triple_of side s.part ≡ triple_of side u.part = sym (ap (λ (z : Source). triple_of side z.part) first) ∙ (x.same ∙ ap (λ (z : Source). triple_of side z.part) second) in
+        let y = (parts_told side s u).1 same in
+        told.1 (y.0, subst (λ b. Cells m b) (sym n_told) (subst (λ a. Cells a (number_of side u.part.cell)) (sym m_told) y.1))),
   )

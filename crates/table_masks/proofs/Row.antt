@@ -60,8 +60,8 @@ next_first v k s at =
     let below = slice_get_within (sources v) k s at in
     let same : get_or (sources v) k s ≡ s = get_or_from_slice_get (sources v) k s s at in
     let up_to : flat_map source_pins (take (k + 1) (sources v)) ≡ flat_map source_pins (take k (sources v)) ++ source_pins s =
-        ap (flat_map source_pins) (take_more (sources v) k s below)
-        ∙ (flat_map-append source_pins (take k (sources v)) (get_or (sources v) k s ∷ []) ∙ (ap (λ ps. flat_map source_pins (take k (sources v)) ++ ps) (append-nil (source_pins (get_or (sources v) k s))) ∙ ap (λ (z : Source). flat_map source_pins (take k (sources v)) ++ source_pins z) same)) in
+    ap (flat_map source_pins) (take_more (sources v) k s below)
+    ∙ (flat_map-append source_pins (take k (sources v)) (get_or (sources v) k s ∷ []) ∙ (ap (λ ps. flat_map source_pins (take k (sources v)) ++ ps) (append-nil (source_pins (get_or (sources v) k s))) ∙ ap (λ (z : Source). flat_map source_pins (take k (sources v)) ++ source_pins z) same)) in
     ap (λ ps. length ps) up_to ∙ length-append (flat_map source_pins (take k (sources v))) (source_pins s)
 
 -- an entry of a range
@@ -120,8 +120,7 @@ module _ (c : Circuit) (feeds : List (Option ℕ)) (tells : Tells c feeds) (k : 
   pub row_fed : (i : ℕ) (a : Source) → i < length t.pins → FeedsFrom c a (get_or t.pins i 0) ↔ (fed i ≡ Some a)
   row_fed i a below =
       let there = pin_there i below in
-      let told = connects_told c feeds tells (start + i) (pin i) a there in
-      (
+      let told = connects_told c feeds tells (start + i) (pin i) a there in (
         (λ f. fed_is i below ∙ told.0 (to_pin c a (pin i) (get_in (pins c.cells) (start + i) (pin i) there) f)),
         (λ h. at_pin c a (pin i) (told.1 (sym (fed_is i below) ∙ h))),
       )
@@ -185,6 +184,6 @@ table_answer cells feeds numbers k s t list own r at is own_is long c shows told
     let own_at : slice_get (sources c.cells) k ≡ Some s = subst (λ x. slice_get (sources x) k ≡ Some s) back at in
     let own_long : length list ≡ length (slice_range feeds (first_pin c.cells k) (first_pin c.cells (k + 1))) = subst (λ x. length list ≡ length (slice_range feeds (first_pin x k) (first_pin x (k + 1)))) back long in
     let own_told : PinsTold c.side (fed_by (sources c.cells) (slice_range feeds (first_pin c.cells k) (first_pin c.cells (k + 1)))) list =
-        subst (λ x. PinsTold c.side (fed_by (sources x) (slice_range feeds (first_pin x k) (first_pin x (k + 1)))) list) back told in
+    subst (λ x. PinsTold c.side (fed_by (sources x) (slice_range feeds (first_pin x k) (first_pin x (k + 1)))) list) back told in
     let count : length list ≡ length t.pins = own_long ∙ row_long c feeds shows.tells k s t own_at is in
     least_told c feeds shows.tells k s t own_at is list count own_told own own_is r (least (subst (λ n. n ≤ 4) (sym count) (few_pins c shows.tells.formed s t (get_in (sources c.cells) k s own_at) is)))

@@ -151,11 +151,10 @@ module _ (c : Circuit) (ok : Sound c) (s : Source) (t : TableCell) (listed : In 
         let kept : f.before (pin k) ≡ f.after (pin k) = f.same (pin k) (pin_in k below) (λ has. open_wire k below none (has.source.out, has.feeds)) in
         (bit_before k below ∙ (kept ∙ zeroed), bit_after k below ∙ zeroed)
     turn k (at.Fed first d) below is =
-        let earlier : first < length t.pins = (let le : first ≤ k = is.before in omega arith) in
-        (
+        let earlier : first < length t.pins = (let le : first ≤ k = is.before in omega arith) in (
           bit_before k below
-          ∙ (given k is.alike.second below is.alike.feeds_second
-          ∙ (ap f.bits (sym is.alike.same) ∙ (sym (given first is.alike.first earlier is.alike.feeds_first) ∙ sym (bit_before first earlier)))),
+              ∙ (given k is.alike.second below is.alike.feeds_second
+              ∙ (ap f.bits (sym is.alike.same) ∙ (sym (given first is.alike.first earlier is.alike.feeds_first) ∙ sym (bit_before first earlier)))),
           (λ ne. bit_before k below ∙ (f.same (pin k) (pin_in k below) (λ has. ne (own_feed k first d below is has)) ∙ sym (bit_after k below))),
         )
 

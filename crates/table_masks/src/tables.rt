@@ -121,7 +121,7 @@ fn with_part(
 ) -> Result<Option<Unmasked>, AllocError>
     requires long { length feeds.now ≡ length (pins_in parts.now) }
     requires known { place < length (sources_of parts.now) }
-    ensures { IfOk result (λ next. (c : Circuit) → Shows c parts.now feeds.now triples.now read.now → LeastSoFar c place least → LeastSoFar c (place + 1) next) }
+    ensures { IfOk result (λ next. (c : Circuit) → Shows c parts.now feeds.now triples.now read.now → LeastSoFar c read.now place least → LeastSoFar c read.now (place + 1) next) }
 {
     if !is_read(read, place) {
         return Ok(least);
@@ -138,8 +138,8 @@ fn with_part(
 }
 
 /// The least read table, by the order of parts, whose output pins that one other domain feeds change, with the least address that
-/// they lead to; `None` exactly where there is none. `feeds` has the part that feeds each pin, and `read` whether each part is
-/// read. Takes time in proportion to parts and pins.
+/// they lead to; `None` exactly where there is none. `feeds` has the part that feeds each pin, and `read` whether each part feeds
+/// one. Takes time in proportion to parts and pins.
 pub fn not_masking(
     alloc: Global,
     parts: &Parts<'_>,

@@ -14,4 +14,4 @@ returns c = λ circuit shows.
     (ap (λ (s : Source). s.domain) c.source.view_is) (c.in_ok-pins.ensures.long ∙ ap (λ xs. length xs) c.feeds_of.ensures) circuit shows
     (subst (λ xs. PinsTold circuit.side (fed_by (sources c.args.parts.now) xs) pins) c.feeds_of.ensures (c.in_ok-pins.ensures.told circuit.side shows.numbers_are))
     (λ few. subst (λ w. LeastReached w pins c.source.inside.domain c.least_of.result) word
-      (subst (λ xs. LeastReached c.table.inside.word xs c.source.inside.domain c.least_of.result) c.deref.ensures.value (c.least_of.ensures (subst (λ xs. length xs ≤ 4) (sym c.deref.ensures.value) few))))
+    (subst (λ xs. LeastReached c.table.inside.word xs c.source.inside.domain c.least_of.result) c.deref.ensures.value (c.least_of.ensures (subst (λ xs. length xs ≤ 4) (sym c.deref.ensures.value) few))))

@@ -23,7 +23,7 @@ returns-in-None c = λ circuit shows so_far.
     let all = c.sources.result.now in
     let below : c.args.place < length all = subst (λ xs. c.args.place < length xs) (sym c.sources.ensures.all) c.requires.known in
     let at : slice_get (sources c.args.parts.now) c.args.place ≡ Some c.index-sources-place.result =
-        ap (λ xs. slice_get xs c.args.place) (sym c.sources.ensures.all) ∙ slice_get_read all (length all) c.args.place c.index-sources-place.result refl below c.index-sources-place.is in
+    ap (λ xs. slice_get xs c.args.place) (sym c.sources.ensures.all) ∙ slice_get_read all (length all) c.args.place c.index-sources-place.result refl below c.index-sources-place.is in
     unfailing_part c.args.parts.now c.args.feeds.now c.args.triples.now c.args.read.now c.args.place c.index-sources-place.result at circuit shows c.args.least
     (subst (Reached circuit c.index-sources-place.result) c.in-None.is (c.in_ok-reached_at.ensures circuit shows.feeds_are)) so_far
 
@@ -32,7 +32,7 @@ returns-in-Some c = λ circuit shows so_far.
     let all = c.sources.result.now in
     let below : c.args.place < length all = subst (λ xs. c.args.place < length xs) (sym c.sources.ensures.all) c.requires.known in
     let at : slice_get (sources c.args.parts.now) c.args.place ≡ Some c.index-sources-place.result =
-        ap (λ xs. slice_get xs c.args.place) (sym c.sources.ensures.all) ∙ slice_get_read all (length all) c.args.place c.index-sources-place.result refl below c.index-sources-place.is in
+    ap (λ xs. slice_get xs c.args.place) (sym c.sources.ensures.all) ∙ slice_get_read all (length all) c.args.place c.index-sources-place.result refl below c.index-sources-place.is in
     failing_part c.args.parts.now c.args.feeds.now c.args.triples.now c.args.read.now c.args.place c.index-sources-place.result at circuit shows c.args.least
     (record { part = c.from_u32-part.result; reached = c.in-Some.reached }) c.lesser.result c.from_u32-part.ensures (sym c.if-not-is_read.ensures)
     (subst (Reached circuit c.index-sources-place.result) c.in-Some.is (c.in_ok-reached_at.ensures circuit shows.feeds_are)) c.lesser.ensures so_far
