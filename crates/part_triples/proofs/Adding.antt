@@ -8,7 +8,7 @@ use Rattle.std.proofs.lemmas.Cmp.{nat_list_eq_equiv}
 use Rattle.std.proofs.lemmas.Map.Text.{is_eq-slice_cmp}
 use Rattle.std.proofs.lemmas.List.Folds.{position_or_len_push}
 use Rattle.std.proofs.lemmas.Bool.{eqb-true, eqb-false, lt-ltb, le-ltb}
-use Rattle.std.proofs.lemmas.List.{length-append, length-map, length-take, map_more}
+use Rattle.std.proofs.lemmas.List.{length-append, length-map, length-take, map_more, take_all}
 use Rattle.std.proofs.lemmas.List.Sums.{prefix_len-le-length}
 use Rattle.std.proofs.lemmas.Slice.Eq.{bytes_eq-Decides}
 use Rattle.records.specs.Side.{Triple}
@@ -101,3 +101,7 @@ places_more ts i d old new below held added q =
     ∙ (ap (or_place (position (is_entry q) before) (is_entry q (get_or ts i d).now)) (sym long)
     ∙ (sym (position_push (is_entry q) before (now (get_or ts i d)))
     ∙ sym (ap (position (is_entry q)) (map_more now ts i d below)))))
+
+-- all triples
+pub places_all : (ts : List (Bor Triple)) (i : ℕ) (places : BTreeMap (Bor (List ℕ)) ℕ) → length ts ≤ i → HoldsPlaces (map (λ t. t.now) (take i ts)) places → HoldsPlaces (map (λ t. t.now) ts) places
+places_all ts i places over held q = held q ∙ ap (λ xs. position (is_entry q) (map (λ (t : Bor Triple). t.now) xs)) (take_all i ts over)

@@ -2,9 +2,12 @@
 #![tactic(auto)]
 
 mod alike;
+mod listed;
 mod names;
 mod numbers;
 mod part_numbers;
+mod places;
+pub mod side_temp;
 mod triples;
 
 pub use numbers::{CellTripleId, OfCellTriple};
