@@ -7,7 +7,6 @@ mod names;
 mod numbers;
 mod part_numbers;
 mod places;
-pub mod side_temp;
 mod triples;
 
 pub use numbers::{CellTripleId, OfCellTriple};

@@ -3,7 +3,7 @@
 ghost use Rattle.std.specs.Prelude.{◌≡◌, ◌++◌, map, IfOk, OnOk};
 ghost use Rattle.circuit.specs.Triples.{all_triples};
 
-use crate::side_temp::{Side, Triple};
+use side_file::{Side, Triple};
 use std::alloc::{AllocError, Global};
 
 // Adds triples to those that are lent.

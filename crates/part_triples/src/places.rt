@@ -5,7 +5,7 @@ ghost use Rattle.circuit.specs.Triples.{is_entry};
 ghost use Rattle.part_triples.specs.Places.{AddsPlace, HoldsPlaces};
 
 use crate::names::add_name;
-use crate::side_temp::Triple;
+use side_file::Triple;
 use std::alloc::{AllocError, Global};
 use std::collections::BTreeMap;
 

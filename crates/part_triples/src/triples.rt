@@ -11,7 +11,7 @@ use crate::listed::listed;
 use crate::part_numbers::{number_at, numbers};
 use crate::places::places;
 use circuit_parts::{Parts, SourceId};
-use crate::side_temp::Side;
+use side_file::Side;
 use std::alloc::{AllocError, Global};
 use std::marker::Model;
 
