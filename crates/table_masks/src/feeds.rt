@@ -28,6 +28,7 @@ pub(crate) fn feeds_of<'f>(
     requires known { place < length (sources_of parts.now) }
     ensures { result.now ≡ slice_range feeds.now (first_pin parts.now place) (first_pin parts.now (place + 1)) }
 {
+    // Their contract says that there are few, so that numbers fit.
     let _ = parts.sources();
     let start = parts.first_pin(SourceId::from_u32(place as u32));
     let end = parts.first_pin(SourceId::from_u32(place as u32 + 1));
