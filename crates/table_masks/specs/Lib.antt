@@ -1,0 +1,4 @@
+pub mod Masking
+pub mod Pins
+pub mod Reaching
+pub mod Least
