@@ -1,5 +1,5 @@
 -- Both ends of links side by side.
-use Rattle.std.proofs.Common.{◌≡◌, ℕ, List, [], ◌∷◌, map, ap, ap₂, inl, inr}
+use Rattle.std.proofs.Common.{ℕ, List, [], ◌∷◌, map, ap, inl, inr}
 use Rattle.std.specs.List.{zip}
 use Rattle.words.specs.Members.{In}
 use Rattle.net_order.specs.declared.feeding.TableLink.{TableLink}

@@ -1,12 +1,12 @@
 -- Links are few, and lead between parts of the cells.
-use Rattle.std.proofs.Common.{◌≡◌, ℕ, zero, suc, ◌+◌, ◌-◌, ◌<◌, ◌≤◌, ◌^◌, Bool, true, false, List, [], ◌∷◌, ◌++◌, length, get_or, take, drop, map, Option, None, Some, inl, inr, refl, sym, ap, subst, ◌∙◌, arith}
+use Rattle.std.proofs.Common.{◌≡◌, ℕ, zero, suc, ◌+◌, ◌-◌, ◌<◌, ◌≤◌, ◌^◌, Bool, true, false, List, [], ◌∷◌, length, get_or, take, drop, map, Option, None, Some, inl, inr, refl, sym, ap, subst, arith}
 use Rattle.std.specs.Prelude.{slice_range, if◌then◌else◌}
 use Rattle.std.specs.List.{All, flat_map}
 use Rattle.std.proofs.lemmas.List.{length-append, length-take, take_all}
 use Rattle.words.specs.Members.{In}
 use Rattle.links.proofs.Members.{in_either, of_map}
 use Rattle.circuit.specs.Cells.{Cells}
-use Rattle.circuit.specs.Parts.{Kind, Source, sources, output_pads}
+use Rattle.circuit.specs.Parts.{Source, sources, output_pads}
 use Rattle.circuit.specs.Pins.{pad_pin, pins, source_pins}
 use Rattle.circuit_parts.specs.Flat.{first_pin}
 use Rattle.circuit_parts.proofs.Starts.{first_rises}

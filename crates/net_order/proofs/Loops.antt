@@ -1,5 +1,5 @@
 -- Loops of tables by numbers, and in the circuit.
-use Rattle.std.proofs.Common.{◌≡◌, ◌≢◌, ℕ, ◌<◌, ◌≤◌, Bool, true, false, List, length, Option, None, Some, ◌⊎◌, inl, inr, refl, sym, ap, subst, ◌∙◌, arith}
+use Rattle.std.proofs.Common.{◌≡◌, ◌≢◌, ℕ, ◌<◌, ◌≤◌, List, Option, Some, inl, inr, refl, sym, ap, subst, ◌∙◌, arith}
 use Rattle.std.specs.Prelude.{slice_get}
 use Rattle.std.specs.declared.cmp.Ordering.{Ordering}
 use Rattle.std.specs.declared.cmp.Ordering.TheVariants.{Less, Greater}
@@ -12,7 +12,7 @@ use Rattle.circuit.specs.Circuits.{Circuit, IsReadBy}
 use Rattle.cycle_order.specs.Orders.{IsOnCycle, IsLeastOnCycle}
 use Rattle.attempts.specs.PinOrder.{part_cmp}
 use Rattle.answers.specs.Refusals.{Refusal, Loop}
-use Rattle.design_checks.specs.Checks.{Passes, IsLeast}
+use Rattle.design_checks.specs.Checks.{Passes}
 use Rattle.design_checks.specs.PinChecks.{IsOnLoop, TablesLoop, loop}
 use Rattle.pin_feeds.specs.Told.{Tells}
 use Rattle.net_order.specs.Orders.{AreInNameOrder, IsLinked}

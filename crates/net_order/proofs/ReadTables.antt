@@ -1,13 +1,13 @@
 -- Links into tables are what tables read.
-use Rattle.std.proofs.Common.{◌≡◌, ℕ, zero, suc, ◌+◌, ◌-◌, ◌<◌, ◌≤◌, Bool, true, false, List, [], ◌∷◌, ◌++◌, length, get_or, take, drop, Option, None, Some, option_map, option_and_then, inl, inr, refl, sym, ap, subst, ◌∙◌, arith}
+use Rattle.std.proofs.Common.{◌≡◌, ℕ, zero, suc, ◌+◌, ◌-◌, ◌<◌, Bool, true, false, List, [], ◌∷◌, ◌++◌, length, get_or, take, drop, Option, None, Some, option_map, option_and_then, inl, inr, refl, sym, ap, subst, ◌∙◌, arith}
 use Rattle.std.specs.Prelude.{slice_get, slice_range, if◌then◌else◌}
 use Rattle.std.proofs.lemmas.Option.{get_or_from_slice_get, slice_get-get_or, slice_get_within}
 use Rattle.words.specs.Members.{In}
 use Rattle.links.proofs.Members.{in_either, in_left, in_right}
 use Rattle.fabric_laws.proofs.Numbered.{get_in, number_there}
 use Rattle.circuit.specs.Cells.{TableCell, Cells}
-use Rattle.circuit.specs.Parts.{PartRef, Kind, OfTable, OfRegister, OfInput, OfClock, Source, sources}
-use Rattle.circuit.specs.Pins.{Pin, table_pins, bit_pins_of, clock_pins_of, pins, source_pins}
+use Rattle.circuit.specs.Parts.{Kind, OfTable, OfRegister, OfInput, OfClock, Source, sources}
+use Rattle.circuit.specs.Pins.{table_pins, bit_pins_of, clock_pins_of, pins, source_pins}
 use Rattle.circuit.specs.Circuits.{Circuit, IsReadBy}
 use Rattle.circuit_parts.specs.Flat.{first_pin}
 use Rattle.circuit_parts.proofs.Starts.{pins_cut}

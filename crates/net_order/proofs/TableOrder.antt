@@ -1,21 +1,19 @@
 -- Tables stand in the order of parts where slices stand in the order of names.
-use Rattle.std.proofs.Common.{◌≡◌, ◌≢◌, ℕ, Bool, true, false, zero, suc, ◌+◌, ◌-◌, ◌<◌, ◌≤◌, List, [], ◌∷◌, ◌++◌, length, Option, None, Some, ◌⊎◌, inl, inr, refl, sym, ap, ap₂, subst, ◌∙◌, arith}
+use Rattle.std.proofs.Common.{◌≡◌, ◌≢◌, ℕ, Bool, true, false, zero, suc, ◌+◌, ◌<◌, List, [], ◌∷◌, ◌++◌, length, None, Some, ◌⊎◌, inl, inr, refl, sym, ap, subst, ◌∙◌, arith}
 use Rattle.std.specs.Prelude.{nat_lt, slice_get}
 use Rattle.std.specs.List.{flat_map}
-use Rattle.std.specs.declared.cmp.Ordering.{Ordering}
 use Rattle.std.specs.declared.cmp.Ordering.TheVariants.{Less, Equal, Greater}
 use Rattle.std.specs.Ordering.{nat_cmp, ordering_then}
 use Rattle.std.specs.Cmp.{IsTotalOrder, nat_cmp_total, nat_cmp_is, on_total, then_total, tied_itself}
 use Rattle.std.specs.Cmp.Lexicographic.{nat_list_cmp_total}
 use Rattle.std.proofs.lemmas.Bool.Decides.{nat_tests}
-use Rattle.std.proofs.lemmas.List.{length-append}
 use Rattle.std.proofs.lemmas.Option.{slice_get_within}
 use Rattle.words.specs.Members.{In}
 use Rattle.links.proofs.Members.{of_flat_map, same_number}
 use Rattle.fabric_laws.proofs.Numbered.{get_in}
 use Rattle.fabric.specs.Wires.{name_cmp}
 use Rattle.circuit.specs.Cells.{TableCell, RegisterCell, SliceCell, Role, InputPad, OutputPad, ClockPad, PadCell, Cells}
-use Rattle.circuit.specs.Parts.{PartRef, Table, Kind, OfTable, OfRegister, OfInput, OfClock, Source, numbered, table_source, register_source, slice_sources, pad_source_by, pad_sources, sources}
+use Rattle.circuit.specs.Parts.{PartRef, OfTable, OfRegister, OfInput, OfClock, Source, numbered, table_source, register_source, slice_sources, pad_source_by, pad_sources, sources}
 use Rattle.attempts.specs.PinOrder.{rank_of, number_of, part_cmp}
 use Rattle.net_order.specs.Orders.{AreInNameOrder}
 

@@ -1,5 +1,5 @@
 -- Orders of parts by the links into tables. (Our own.)
-use Rattle.std.specs.Prelude.{◌≡◌, ℕ, ◌<◌, List, length, Option, None, Some, slice_get}
+use Rattle.std.specs.Prelude.{◌≡◌, ℕ, ◌<◌, List, length, Option, Some, slice_get}
 use Rattle.std.specs.declared.cmp.Ordering.TheVariants.{Less}
 use Rattle.words.specs.Members.{In}
 use Rattle.fabric.specs.Wires.{name_cmp}

@@ -1,4 +1,4 @@
-use Rattle.std.proofs.Common.{◌≡◌, length, map, ap, ◌∙◌}
+use Rattle.std.proofs.Common.{length, map, ap, ◌∙◌}
 use Rattle.circuit.specs.Parts.{sources}
 use Rattle.net_order.specs.declared.feeding.TableLink.{TableLink}
 use Rattle.net_order.proofs.Few.{sources_within, tables_within}
