@@ -1,0 +1,7 @@
+pub mod NameBytes
+pub mod Refused
+pub mod Steps
+pub mod Types
+pub mod Rising
+pub mod Databases
+pub mod Designs
