@@ -1,8 +1,13 @@
 -- Databases that are read one after the other.
-use Rattle.std.proofs.Common.{◌≡◌, ℕ, List, [], ◌∷◌, ◌++◌, map, refl, sym, ap, subst, ◌∙◌, append_assoc}
-use Rattle.std.specs.Prelude.{Result, Ok, Err, Option}
+use Rattle.std.proofs.Common.{◌≡◌, ℕ, ◌+◌, ◌<◌, inl, inr, List, [], ◌∷◌, ◌++◌, length, map, take, drop, get_or, refl, sym, ap, subst, ◌∙◌}
+use Rattle.std.specs.Prelude.{Result, Ok, Err}
+use Rattle.std.proofs.lemmas.List.{take_more, drop_more, get_or-map, length-map, take-append-drop}
+use denote.Ref.{Bor}
+use Rattle.words.specs.Members.{In}
 use Rattle.json_forms.specs.Results.{◌>>=◌}
 use Rattle.records.specs.Database.{TileDb}
+use Rattle.fabric.specs.InOrder.{IsRising}
+use Rattle.fabric.specs.Wires.{name_cmp}
 use Rattle.fabric.specs.Device.{TypeDb}
 use Rattle.answers.specs.Refusals.{Refusal}
 use Rattle.design_files.specs.Names.{database_name}
@@ -12,7 +17,50 @@ use Rattle.run_ends.specs.Reads.{IsNextDatabase}
 use Rattle.design_reader.specs.declared.errors.FileError.{FileError}
 use Rattle.design_reader.specs.Answers.{Refuses, Gives, IsName}
 use Rattle.design_reader.specs.Reached.{IsDatabaseReached}
+use Rattle.design_reader.proofs.Rising.{map-push}
 use Rattle.design_reader.proofs.Steps.{first_refuses, refuses_as}
+
+-- ---- the names of types as a loop goes over them
+
+module _ (kinds : List (Bor (List ℕ))) (i : ℕ) (kind : Bor (List ℕ)) (within : i < length kinds) (is : kind ≡ get_or kinds i kind) where
+  names : List (List ℕ)
+  names = map (λ k. k.now) kinds
+
+  here : get_or (map (λ k. k.now) kinds) i [] ≡ kind.now
+  here = get_or-map (λ k. k.now) kinds i kind [] within ∙ ap (λ (k : Bor (List ℕ)). k.now) (sym is)
+
+  inside : i < length (map (λ k. k.now) kinds)
+  inside = rw (length-map kinds (λ k. k.now)) within
+
+  -- one more name
+  pub names_more : take (i + 1) (map (λ k. k.now) kinds) ≡ take i (map (λ k. k.now) kinds) ++ kind.now ∷ []
+  names_more = take_more (map (λ k. k.now) kinds) i [] inside ∙ ap (λ (n : List ℕ). take i (map (λ k. k.now) kinds) ++ n ∷ []) here
+
+  -- the names before it, itself, and those behind it
+  pub names_split : map (λ k. k.now) kinds ≡ take i (map (λ k. k.now) kinds) ++ kind.now ∷ drop (i + 1) (map (λ k. k.now) kinds)
+  names_split =
+      sym (take-append-drop i (map (λ k. k.now) kinds))
+      ∙ ap (λ (r : List (List ℕ)). take i (map (λ k. k.now) kinds) ++ r)
+      (drop_more (map (λ k. k.now) kinds) i [] inside ∙ ap (λ (n : List ℕ). n ∷ drop (i + 1) (map (λ k. k.now) kinds)) here)
+
+before_rest : (x : List ℕ) (front rest : List (List ℕ)) (k y : List ℕ) → In (front ++ k ∷ []) y → In (front ++ k ∷ rest) y
+before_rest x [] rest k y i = elim i [ inl e ↦ inl e | inr j ↦ absurd j ]
+before_rest x (z ∷ front) rest k y i = elim i [ inl e ↦ inl e | inr j ↦ inr (before_rest x front rest k y j) ]
+
+front_rises : (front rest : List (List ℕ)) (k : List ℕ) → IsRising name_cmp (front ++ k ∷ rest) → IsRising name_cmp (front ++ k ∷ [])
+front_rises [] rest k r = ((λ y i. absurd i), tt)
+front_rises (x ∷ front) rest k r = ((λ y i. r.0 y (before_rest x front rest k y i)), front_rises front rest k r.1)
+
+-- so far the types rise
+pub rises_so_far : (names so_far front rest : List (List ℕ)) (k : List ℕ) → IsRising name_cmp names → names ≡ front ++ k ∷ rest → so_far ≡ front → IsRising name_cmp (so_far ++ k ∷ [])
+rises_so_far names so_far front rest k r order same =
+    subst (λ (f : List (List ℕ)). IsRising name_cmp (f ++ k ∷ [])) (sym same) (front_rises front rest k (subst (IsRising name_cmp) order r))
+
+-- the types of the databases so far, with one more
+pub kinds_more : (types : List TypeDb) (t : TypeDb) (front more : List (List ℕ)) → map (λ u. u.kind) types ≡ front → more ≡ front ++ t.kind ∷ [] → map (λ u. u.kind) (types ++ t ∷ []) ≡ more
+kinds_more types t front more so_far is = map-push types t ∙ ap (λ (f : List (List ℕ)). f ++ t.kind ∷ []) so_far ∙ sym is
+
+-- ---- databases
 
 module _ (files : Files) (family : List ℕ) where
   -- the database of a type

@@ -1,5 +1,6 @@
 pub mod NameBytes
 pub mod Refused
+pub mod Whole
 pub mod Steps
 pub mod Types
 pub mod Rising

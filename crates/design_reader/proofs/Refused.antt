@@ -1,15 +1,13 @@
 -- Answers of readers as those of files.
-use Rattle.std.proofs.Common.{◌≡◌, ◌≢◌, ℕ, ◌≤◌, ◌<◌, Bool, true, false, cond, List, length, refl, sym, ap, subst, arith}
-use Rattle.std.specs.Prelude.{Result, Ok, Err, Option, Some, None, IfSome, MatchOption, nat_lt}
+use Rattle.std.proofs.Common.{◌≡◌, ℕ, List, refl, sym, ap, subst, arith}
+use Rattle.std.specs.Prelude.{Result, Ok, Err, Option, Some, None, IfSome, MatchOption}
 use Rattle.words.specs.Rose.{Rose}
-use Rattle.answers.specs.Refusals.{Refusal, Missing, TooLong}
-use Rattle.design_files.specs.Parsed.{or_refused, parsed}
-use Rattle.outside.specs.Whole.{whole_of}
-use Rattle.outside.specs.declared.whole.WholeError.TheVariants as whole
+use Rattle.answers.specs.Refusals.{Refusal}
+use Rattle.design_files.specs.Parsed.{or_refused}
 use Rattle.design_reader.specs.declared.errors.FileError.{FileError}
 use Rattle.design_reader.specs.declared.errors.FileError.TheVariants.{Refused, Unread, Memory}
 use Rattle.design_reader.specs.Errors.{Tells, TellsUnread, StandsFor, ErrorCounts, ReadCounts}
-use Rattle.design_reader.specs.Answers.{IsRefusedText, IsUnreadText, Refuses, Gives, IsName, NoName, short_file}
+use Rattle.design_reader.specs.Answers.{IsRefusedText, IsUnreadText, Refuses, Gives, IsName, NoName}
 
 -- ---- errors that tell something
 
@@ -58,31 +56,3 @@ fault_refused {X} {E} {F} expected fault refusal Reached error e = go (fault err
     go : (o : Option F) → IfSome o (λ f. expected ≡ Err f) → MatchOption o (e ≡ Memory) (λ f. Tells (refusal f) e) → Refuses (or_refused refusal expected) Reached e
     go None h s = subst (Refuses (or_refused refusal expected) Reached) (sym s) tt
     go (Some f) h s = refuses (or_refused refusal expected) Reached (refusal f) e (ap (or_refused refusal) h) s
-
--- ---- whole files
-
--- a file that is there and short enough
-pub file_there : (name : List ℕ) (most : ℕ) (file : Option (List ℕ)) (bytes : List ℕ) → whole_of file most ≡ Ok bytes → short_file name most file ≡ Ok (Some bytes)
-file_there name most None bytes h = absurd (let no : ⊥ = cc in no)
-file_there name most (Some all) bytes h = go (nat_lt most (length all)) h
-  where
-    go : (b : Bool) → cond b (Err whole.TooLong) (Ok all) ≡ Ok bytes → cond b (Err (TooLong name)) (Ok (Some all)) ≡ Ok (Some bytes)
-    go true h = absurd (let no : ⊥ = cc in no)
-    go false h = let same : all ≡ bytes = cc in ap (λ (xs : List ℕ). Ok (Some xs)) same
-
-pub file_missing : (name : List ℕ) (most : ℕ) (file : Option (List ℕ)) → whole_of file most ≡ Err whole.Missing → short_file name most file ≡ Ok None
-file_missing name most None h = refl
-file_missing name most (Some all) h = go (nat_lt most (length all)) h
-  where
-    go : (b : Bool) → cond b (Err whole.TooLong) (Ok all) ≡ Err whole.Missing → cond b (Err (TooLong name)) (Ok (Some all)) ≡ Ok None
-    go true h = absurd (let no : ⊥ = cc in no)
-    go false h = absurd (let no : ⊥ = cc in no)
-
-pub file_long : (name : List ℕ) (most : ℕ) (file : Option (List ℕ)) → whole_of file most ≡ Err whole.TooLong → short_file name most file ≡ Err (TooLong name)
-file_long name most None h = absurd (let no : ⊥ = cc in no)
-file_long name most (Some all) h = go (nat_lt most (length all)) h
-  where
-    go : (b : Bool) → cond b (Err whole.TooLong) (Ok all) ≡ Err whole.TooLong → cond b (Err (TooLong name)) (Ok (Some all)) ≡ Err (TooLong name)
-    go true h = refl
-    go false h = absurd (let no : ⊥ = cc in no)
-

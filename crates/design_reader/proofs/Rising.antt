@@ -1,5 +1,6 @@
 -- Types in byte order, each once, and databases by type.
 use Rattle.std.proofs.Common.{◌≡◌, ◌≢◌, ◌⊎◌, inl, inr, ℕ, Bool, true, false, cond, List, [], ◌∷◌, ◌++◌, map, Option, Some, None, bytes_eq, refl, sym, ap, subst, ◌∙◌}
+use Rattle.std.specs.Prelude.{Result, Ok, Err, OnOk}
 use Rattle.std.specs.declared.cmp.Ordering.{Ordering}
 use Rattle.std.specs.declared.cmp.Ordering.TheVariants.{Less, Equal, Greater}
 use Rattle.std.specs.Ordering.{match_ordering, ordering_reverse}
@@ -9,12 +10,13 @@ use Rattle.std.proofs.lemmas.Slice.Eq.{bytes_eq-Decides}
 use Rattle.words.specs.Members.{In}
 use Rattle.words.specs.Ordered.{put_once, in_order_once}
 use Rattle.records.specs.Grid.{Grid}
+use Rattle.records.specs.Database.{TileDb}
 use Rattle.fabric.specs.InOrder.{IsRising}
 use Rattle.fabric.specs.Wires.{name_cmp}
 use Rattle.fabric.specs.Device.{TypeDb}
 use Rattle.fabric_laws.proofs.Orders.{name_same}
 use Rattle.device_names.specs.Types.{type_named, AreInNameOrder}
-use Rattle.device_names.proofs.ByType.{bytes_same, bytes_differ}
+use Rattle.device_names.proofs.ByType.{bytes_same, bytes_differ, of_name}
 use Rattle.design_files.specs.Names.{types_of}
 
 -- ---- names that are put in order
@@ -111,7 +113,7 @@ by_names (x ∷ xs) (y ∷ ys) p q same = go (name_cmp x.kind y.kind) refl (by_n
         let found = sym (named_first y ys) ∙ sym (same y.kind) ∙ behind_less y.kind x xs below p in let no : ⊥ = cc in no)
 
 -- one more name at the end
-map-push : (types : List TypeDb) (t : TypeDb) → map (λ u. u.kind) (types ++ t ∷ []) ≡ map (λ u. u.kind) types ++ t.kind ∷ []
+pub map-push : (types : List TypeDb) (t : TypeDb) → map (λ u. u.kind) (types ++ t ∷ []) ≡ map (λ u. u.kind) types ++ t.kind ∷ []
 map-push [] t = refl
 map-push (u ∷ types) t = ap (λ ks. u.kind ∷ ks) (map-push types t)
 
@@ -142,3 +144,13 @@ put_last old new t rises order there others = by_names new (old ++ t ∷ []) ord
         go false e =
             let other : q ≢ t.kind = (λ s. (let wrong : true ≡ false = sym (bytes_same t.kind) ∙ ap (bytes_eq t.kind) (sym s) ∙ e in let no : ⊥ = cc in no)) in
             others q other ∙ sym (found_others old t q other)
+
+-- the same of a call that puts it in
+pub put_on_ok : {E : Type 0} (result : Result (Unit {0}) E) (old new : List TypeDb) (kind name : List ℕ) (db : TileDb) → name ≡ kind → IsRising name_cmp (map (λ u. u.kind) old ++ kind ∷ [])
+    → OnOk result (type_named new name ≡ Some (of_name name db)) → OnOk result ((other : List ℕ) → other ≢ name → type_named new other ≡ type_named old other) → AreInNameOrder new
+    → OnOk result (new ≡ old ++ of_name kind db ∷ [])
+put_on_ok (Ok done) old new kind name db same rises there others order =
+    put_last old new (of_name kind db) rises order
+    (subst (λ (n : List ℕ). type_named new n ≡ Some (of_name n db)) same there)
+    (λ other ne. others other (λ e. ne (e ∙ same)))
+put_on_ok (Err e) old new kind name db same rises there others order = tt

@@ -24,8 +24,8 @@ fn add(databases: &mut Databases, kind: &Name, database: TileDb) -> Result<(), A
     requires { IsRising name_cmp (map (λ t. t.kind) databases.old ++ kind.now ∷ []) }
     ensures { OnOk result (databases.new ≡ databases.old ++ record { kind = kind.now; db = database } ∷ []) }
 {
-    let kind = kind.copy()?;
-    databases.insert(kind, database)
+    let name = kind.copy()?;
+    databases.insert(name, database)
 }
 
 // The databases of types in order, one after the other.
@@ -52,7 +52,6 @@ fn read_each<F: Files>(
 }
 
 /// The databases of the types of a grid, in byte order of the types.
-#[tactic(auto, using(crate::proofs::Rising::types_rise))]
 pub(crate) fn read_databases<F: Files>(
     alloc: Global,
     files: &mut F,
