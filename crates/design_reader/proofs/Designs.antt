@@ -90,3 +90,57 @@ module _ (files : Files) (inputs : Inputs) where
           whole types is =
               to_databases
               ∙ ap (λ (d : Result (List TypeDb) Refusal). d >>= λ types. Ok (record { config = config; device = record { grid = grid; types = types; profile = profile }; side = side })) is
+
+-- ---- the same over files that stay, and inputs that are given in another form
+
+module _ (files f1 f2 f3 f4 : Files) (inputs given : Inputs) (is_given : inputs ≡ given) where
+  given_refuses : (e : FileError) → Refuses (design_of files inputs) (IsReached files inputs) e → Refuses (design_of files given) (IsReached files given) e
+  given_refuses e h = subst (λ (i : Inputs). Refuses (design_of files i) (IsReached files i) e) is_given h
+
+  pub config_refused : (e : FileError) → Refuses (config_in files inputs) (IsName inputs.config) e → Refuses (design_of files given) (IsReached files given) e
+  config_refused e h = given_refuses e (at_config files inputs e h)
+
+  module _ (config : Config) (device : List ℕ) (config_is : config_in files inputs ≡ Ok config) (k1 : f1 ≡ files) (device_is : device ≡ config.device) where
+    pub grid_refused : (e : FileError) → Refuses (grid_in f1 inputs device) (IsName (grid_name inputs.family device)) e → Refuses (design_of files given) (IsReached files given) e
+    grid_refused e h =
+        given_refuses e
+        (at_grid files inputs config config_is e
+        (subst (λ (d : List ℕ). Refuses (grid_in files inputs d) (IsName (grid_name inputs.family d)) e) device_is
+        (subst (λ (f : Files). Refuses (grid_in f inputs device) (IsName (grid_name inputs.family device)) e) k1 h)))
+
+    module _ (grid : Grid) (grid_is : grid_in f1 inputs device ≡ Ok grid) (k2 : f2 ≡ f1) where
+      the_grid_is : grid_in files inputs config.device ≡ Ok grid
+      the_grid_is = subst (λ (d : List ℕ). grid_in files inputs d ≡ Ok grid) device_is (subst (λ (f : Files). grid_in f inputs device ≡ Ok grid) k1 grid_is)
+
+      pub profile_refused : (e : FileError) → Refuses (profile_in f2 inputs) (IsName inputs.profile) e → Refuses (design_of files given) (IsReached files given) e
+      profile_refused e h =
+          given_refuses e
+          (at_profile files inputs config config_is grid the_grid_is e (subst (λ (f : Files). Refuses (profile_in f inputs) (IsName inputs.profile) e) (k2 ∙ k1) h))
+
+      module _ (profile : Profile) (profile_is : profile_in f2 inputs ≡ Ok profile) (k3 : f3 ≡ f2) where
+        the_profile_is : profile_in files inputs ≡ Ok profile
+        the_profile_is = subst (λ (f : Files). profile_in f inputs ≡ Ok profile) (k2 ∙ k1) profile_is
+
+        pub side_refused : (e : FileError) → Refuses (side_file_in f3 inputs) (IsName inputs.side) e → Refuses (design_of files given) (IsReached files given) e
+        side_refused e h =
+            given_refuses e
+            (at_side files inputs config config_is grid the_grid_is profile the_profile_is e
+            (subst (λ (f : Files). Refuses (side_file_in f inputs) (IsName inputs.side) e) (k3 ∙ k2 ∙ k1) h))
+
+        module _ (side : Side) (side_is : side_file_in f3 inputs ≡ Ok side) (k4 : f4 ≡ f3) where
+          the_side_is : side_file_in files inputs ≡ Ok side
+          the_side_is = subst (λ (f : Files). side_file_in f inputs ≡ Ok side) (k3 ∙ k2 ∙ k1) side_is
+
+          pub databases_refused : (e : FileError) → Refuses (databases_in f4 inputs.family (types_of grid)) (IsDatabaseReached f4 inputs.family (types_of grid)) e
+              → Refuses (design_of files given) (IsReached files given) e
+          databases_refused e h =
+              given_refuses e
+              (at_databases files inputs config config_is grid the_grid_is profile the_profile_is side the_side_is e
+              (subst (λ (f : Files). Refuses (databases_in f inputs.family (types_of grid)) (IsDatabaseReached f inputs.family (types_of grid)) e) (k4 ∙ k3 ∙ k2 ∙ k1) h))
+
+          pub read_whole : (types : List TypeDb) → databases_in f4 inputs.family (types_of grid) ≡ Ok types
+              → design_of files given ≡ Ok (record { config = config; device = record { grid = grid; types = types; profile = profile }; side = side })
+          read_whole types h =
+              sym (ap (design_of files) is_given)
+              ∙ whole files inputs config config_is grid the_grid_is profile the_profile_is side the_side_is types
+              (subst (λ (f : Files). databases_in f inputs.family (types_of grid) ≡ Ok types) (k4 ∙ k3 ∙ k2 ∙ k1) h)

@@ -2,7 +2,7 @@ pub mod NameBytes
 pub mod Refused
 pub mod Whole
 pub mod Steps
-pub mod Types
+pub mod InOrder
 pub mod Rising
-pub mod Databases
+pub mod InTurn
 pub mod Designs

@@ -15,8 +15,9 @@ use Rattle.fabric.specs.InOrder.{IsRising}
 use Rattle.fabric.specs.Wires.{name_cmp}
 use Rattle.fabric.specs.Device.{TypeDb}
 use Rattle.fabric_laws.proofs.Orders.{name_same}
+use Rattle.fabric_laws.proofs.Members.{is_false}
 use Rattle.device_names.specs.Types.{type_named, AreInNameOrder}
-use Rattle.device_names.proofs.ByType.{bytes_same, bytes_differ, of_name}
+use Rattle.device_names.proofs.ByType.{of_name}
 use Rattle.design_files.specs.Names.{types_of}
 
 -- ---- names that are put in order
@@ -54,6 +55,12 @@ types_rise grid kinds same = subst (IsRising name_cmp) (sym same) (once_rising (
 
 same_bytes : (a b : List ℕ) → bytes_eq a b ≡ true → a ≡ b
 same_bytes a b e = (bytes_eq-Decides a b).0 e
+
+bytes_same : (a : List ℕ) → bytes_eq a a ≡ true
+bytes_same a = (bytes_eq-Decides a a).1 refl
+
+bytes_differ : (a b : List ℕ) → a ≢ b → bytes_eq a b ≡ false
+bytes_differ a b apart = is_false (bytes_eq a b) (λ e. apart (same_bytes a b e))
 
 never_less : (k : List ℕ) → name_cmp k k ≡ Less → ⊥
 never_less k less = let tied = tied_itself nat_list_cmp_total k in let no : ⊥ = cc in no

@@ -9,7 +9,7 @@ use std::collections::BTreeSet;
 use tile_grid::Tile;
 
 // The types of tiles as a set.
-#[tactic(auto, using(crate::proofs::Types::put_last, crate::proofs::Types::all_put))]
+#[tactic(auto, using(crate::proofs::InOrder::put_last, crate::proofs::InOrder::all_put))]
 fn set_of<'a>(alloc: Global, tiles: &'a [Tile]) -> Result<BTreeSet<&'a Name>, AllocError>
     ensures { IfOk result (λ kinds. map (λ kind. kind.now) kinds.keys ≡ in_order_once (λ kind. kind) (map (λ tile. tile.kind) tiles.now)) }
 {

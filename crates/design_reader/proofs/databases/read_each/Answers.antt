@@ -11,7 +11,7 @@ use Rattle.design_files.specs.Names.{database_name}
 use Rattle.design_reader.specs.declared.errors.FileError.{FileError}
 use Rattle.design_reader.specs.Answers.{Gives, Refuses, IsName}
 use Rattle.design_reader.specs.Reached.{IsDatabaseReached}
-use Rattle.design_reader.proofs.Databases.{names_more, names_split, rises_so_far, kinds_more, of_kind, one_more, next_refuses}
+use Rattle.design_reader.proofs.InTurn.{names_more, names_split, rises_so_far, kinds_more, of_kind, one_more, next_refuses}
 use Rattle.design_reader.proofs.databases.read_each.Goals as goal
 
 pub loop-kind-preserved : goal.loop-kind-preserved

@@ -1,6 +1,6 @@
 use Rattle.std.proofs.Common.{◌≡◌, length, map}
 use Rattle.words.specs.Ordered.{in_order_once}
-use Rattle.design_reader.proofs.Types.{put_kinds}
+use Rattle.design_reader.proofs.InOrder.{put_kinds}
 use Rattle.design_reader.proofs.types.set_of.Given as goal
 
 -- the types of the tiles that are left, put among those so far, are those of all tiles in order

@@ -23,9 +23,6 @@ use Rattle.design_reader.proofs.Steps.{first_refuses, refuses_as}
 -- ---- the names of types as a loop goes over them
 
 module _ (kinds : List (Bor (List ℕ))) (i : ℕ) (kind : Bor (List ℕ)) (within : i < length kinds) (is : kind ≡ get_or kinds i kind) where
-  names : List (List ℕ)
-  names = map (λ k. k.now) kinds
-
   here : get_or (map (λ k. k.now) kinds) i [] ≡ kind.now
   here = get_or-map (λ k. k.now) kinds i kind [] within ∙ ap (λ (k : Bor (List ℕ)). k.now) (sym is)
 
