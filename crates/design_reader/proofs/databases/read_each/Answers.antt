@@ -57,7 +57,7 @@ returns-in_err-database-clause-answer g c =
     let names = map (λ k. k.now) kinds in
     let i : ℕ = c.loop-kind.kind-index in
     let kind : Bor (List ℕ) = c.kind-item.result in
-    let e : FileError = c.in_err-database.field-0 in
+    let e : FileError = c.in_err-database.field-0.0 in
     let is : c.from_residual-in_err-database.result ≡ Err e = search rules in
     λ told.
         subst (Gives (λ ts. ts) (databases_in files family names) (IsDatabaseReached files family names)) (sym is)
