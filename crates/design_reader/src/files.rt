@@ -131,11 +131,7 @@ fn no_records(alloc: Global) -> TileDb
 }
 
 // The database that the bytes of the file of a name are read as; there are no records where it isn't there.
-fn database_there(
-    alloc: Global,
-    name: &str,
-    there: Option<Vec<u8>>,
-) -> Result<TileDb, FileError>
+fn database_there(alloc: Global, name: &str, there: Option<Vec<u8>>) -> Result<TileDb, FileError>
     ensures { Gives (λ database. database) (records_there name.now (bytes_view there)) NoName result }
 {
     match there {

@@ -60,11 +60,11 @@ returns-in_err-database-clause-answer g c =
     let e : FileError = c.in_err-database.field-0.0 in
     let is : c.from_residual-in_err-database.result ≡ Err e = search rules in
     λ told.
-        subst (Gives (λ ts. ts) (databases_in files family names) (IsDatabaseReached files family names)) (sym is)
-        (next_refuses files family names (take i names) (drop (i + 1) names) kind.now c.loop-kind.databases e
-        (names_split kinds i kind c.loop-kind-test.true c.kind-item.is) (c.loop-kind.invariant.read told)
-        (subst (λ (f : Files). Refuses (of_kind f family kind.now) (IsName (database_name family kind.now)) e) c.loop-kind.invariant.content
-        (c.in_err-database.ensures.answer (c.loop-kind.invariant.told told))))
+    subst (Gives (λ ts. ts) (databases_in files family names) (IsDatabaseReached files family names)) (sym is)
+    (next_refuses files family names (take i names) (drop (i + 1) names) kind.now c.loop-kind.databases e
+    (names_split kinds i kind c.loop-kind-test.true c.kind-item.is) (c.loop-kind.invariant.read told)
+    (subst (λ (f : Files). Refuses (of_kind f family kind.now) (IsName (database_name family kind.now)) e) c.loop-kind.invariant.content
+    (c.in_err-database.ensures.answer (c.loop-kind.invariant.told told))))
 
 pub returns-clause-answer : goal.returns-clause-answer
 returns-clause-answer g c = λ told.
