@@ -58,7 +58,7 @@ returns-in_err-database-clause-answer g c =
     let i : ℕ = c.loop-kind.kind-index in
     let kind : Bor (List ℕ) = c.kind-item.result in
     let e : FileError = c.in_err-database.field-0.0 in
-    let is : c.from_residual-in_err-database.result ≡ Err e = search rules in
+    let is : c.from_residual.result ≡ Err e = search rules in
     λ told.
     subst (Gives (λ ts. ts) (databases_in files family names) (IsDatabaseReached files family names)) (sym is)
     (next_refuses files family names (take i names) (drop (i + 1) names) kind.now c.loop-kind.databases e

@@ -15,7 +15,7 @@ returns-in_err-config-clause-answer g c = λ told.
     let files : Files = g.F.Files.file c.args.files.now in
     let inputs : Inputs = record { family = c.inputs.inside.family.now; profile = c.inputs.inside.profile.now; side = c.inputs.inside.side.now; config = c.inputs.inside.config.now } in
     let e : FileError = c.in_err-config.field-0.0 in
-    let is : c.from_residual-in_err-config.result ≡ Err e = search rules in
+    let is : c.from_residual.result ≡ Err e = search rules in
     subst (Gives (λ d. d) (design_of files c.args.inputs.now) (IsReached files c.args.inputs.now)) (sym is)
     (config_refused files files files files files inputs c.args.inputs.now c.inputs.view_is e (c.in_err-config.ensures.answer told))
 
