@@ -1,4 +1,4 @@
-use Rattle.std.proofs.Common.{◌≡◌, ℕ, List, sym, subst}
+use Rattle.std.proofs.Common.{ℕ, List, sym, subst}
 use Rattle.design_files.specs.Parsed.{Files}
 use Rattle.run_ends.specs.Counts.{Faults, faults_between}
 use Rattle.run_ends.specs.Ends.{IsEnd}
