@@ -1,4 +1,4 @@
 pub mod Whole
-pub mod Bits
+pub mod Words
 pub mod Chosen
 pub mod Ended

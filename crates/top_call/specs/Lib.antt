@@ -1,6 +1,4 @@
-pub mod Statuses
 pub mod Replies
-pub mod Refused
 pub mod Printed
 pub mod Commands
 pub mod Longest

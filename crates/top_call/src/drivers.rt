@@ -9,9 +9,9 @@ ghost use Rattle.answers.specs.Drivers.{no_origin, chosen_sources, or_dash, driv
 ghost use Rattle.cram_image.specs.Image.{bits as bits_in};
 ghost use Rattle.top_call.specs.Longest.{longest_fit as longest_fit_of, sources_of, has_any};
 
-use super::reply::push_word;
 use bits_db::{Arc, Mux};
 use cram_image::Image;
+use replies::push_word;
 use rr_ids::DeviceBit;
 use std::alloc::{AllocError, Global};
 use text_cut::PatternBit;

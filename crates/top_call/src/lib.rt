@@ -4,9 +4,7 @@
 mod command;
 mod drivers;
 mod print;
-mod reply;
-mod status;
 mod top;
 
-pub use status::{Status, exit_number};
+pub use replies::{Status, exit_number};
 pub use top::harden_main;

@@ -2,11 +2,10 @@
 
 ghost use Rattle.std.specs.Prelude.{◌≡◌, ◌++◌};
 ghost use Rattle.top_call.specs.Printed.{IsPrintable, Prints, PrintCounts};
-ghost use Rattle.top_call.specs.Statuses.{status_of};
+ghost use Rattle.replies.specs.Statuses.{status_of};
 
-use super::Status;
-use super::reply::Reply;
 use outside::{Sink, SinkError, write_all};
+use replies::{Reply, Status};
 
 /// Prints a reply. The status is the reply's where all of its text was printed.
 #[tactic(auto, using(crate::proofs::Whole::printed_whole, crate::proofs::Whole::counts_whole))]

@@ -10,17 +10,19 @@ ghost use Rattle.patterns.specs.Bits.{bits_of_list};
 ghost use Rattle.run_ends.specs.Causes.{HasCause, IsKnown, KeepsFiles, NoFaultSwallowed, UsageOnly};
 ghost use Rattle.run_ends.specs.Counts.{NoneRose, faults_between};
 ghost use Rattle.run_ends.specs.Ends.{EndsAnswered, IsEnd};
-ghost use Rattle.top_call.specs.Commands.{reading_of_words};
+ghost use Rattle.command_words.specs.Views.{command_view};
+ghost use Rattle.replies.specs.Statuses.{status_of};
+ghost use Rattle.top_call.specs.Commands.{IsKnownCommand, reading_of_words};
 ghost use Rattle.top_call.specs.Replies.{IsDriversStatus, IsProper, IsReply, ReplyCounts, UsageReply, without_files};
-ghost use Rattle.top_call.specs.Statuses.{status_of};
 
-use super::Status;
-use super::command::{Command, WordsError, read_words};
+use super::command::read_words;
 use super::drivers::{drivers_text, image_of};
 use super::print::print;
-use super::reply::{Refusal, Reply, refused, unread, usage};
 use bits_db::{DbError, Mux};
+use command_words::{Command, WordsError};
 use outside::{Files, Sink, WholeError, read_whole};
+use replies::{Reply, Status, refused, unread, usage};
+use report_text::Refusal;
 use rr_ids::DeviceBit;
 use std::alloc::{AllocError, Global};
 
@@ -52,8 +54,8 @@ fn reply_to_bytes(
 {
     match bits_db::read(alloc, bytes) {
         Ok(database) => report(alloc, bits, database.muxes.as_slice()),
-        Err(DbError::BadLine(line)) => refused(alloc, Refusal::BadLine(name, line)),
-        Err(DbError::TooLarge(limit)) => refused(alloc, Refusal::TooLarge(name, limit)),
+        Err(DbError::BadLine(line)) => refused(alloc, Refusal::BadLine(name.as_bytes(), line)),
+        Err(DbError::TooLarge(limit)) => refused(alloc, Refusal::TooLarge(name.as_bytes(), limit)),
         Err(DbError::Memory) => Err(AllocError),
     }
 }
@@ -68,17 +70,39 @@ fn reply_to_file<F: Files>(
     ensures told { F.told files.old → F.told files.new }
     ensures content { F.file files.new ≡ F.file files.old }
     ensures reply { F.told files.old → IsReply (F.file files.old) (Ok (commands.Drivers name.now bits.now)) result }
-    ensures proper { IsProper (F.file files.old) (Ok (commands.Drivers name.now bits.now)) result }
+    ensures proper { F.told files.old → IsProper (F.file files.old) (Ok (commands.Drivers name.now bits.now)) result }
     ensures usage { UsageReply (Ok (commands.Drivers name.now bits.now)) result }
     ensures reads { ReplyCounts result (F.read_faults files.old) (F.read_faults files.new) }
     ensures writes { F.write_faults files.new ≡ F.write_faults files.old }
 {
     match read_whole(alloc, files, name, MOST_DATABASE_BYTES) {
         Ok(bytes) => reply_to_bytes(alloc, name, bits, &bytes),
-        Err(WholeError::Missing) => refused(alloc, Refusal::Missing(name)),
-        Err(WholeError::TooLong) => refused(alloc, Refusal::TooLong(name)),
+        Err(WholeError::Missing) => refused(alloc, Refusal::Missing(name.as_bytes())),
+        Err(WholeError::TooLong) => refused(alloc, Refusal::TooLong(name.as_bytes())),
         Err(WholeError::ReadFault) => unread(alloc, name),
         Err(WholeError::Memory) => Err(AllocError),
+    }
+}
+
+// The reply to a command. Files are read, and none is written.
+#[tactic(auto, using(crate::proofs::Words::only_drivers))]
+fn reply_to_command<F: Files>(
+    alloc: Global,
+    command: Command<'_>,
+    files: &mut F,
+) -> Result<Reply, AllocError>
+    requires { IsKnownCommand (command_view command) }
+    ensures told { F.told files.old → F.told files.new }
+    ensures content { F.file files.new ≡ F.file files.old }
+    ensures reply { IsKnown (Ok (command_view command.entry)) (F.told files.old) → IsReply (F.file files.old) (Ok (command_view command.entry)) result }
+    ensures proper { IsKnown (Ok (command_view command.entry)) (F.told files.old) → IsProper (F.file files.old) (Ok (command_view command.entry)) result }
+    ensures usage { UsageReply (Ok (command_view command.entry)) result }
+    ensures reads { ReplyCounts result (F.read_faults files.old) (F.read_faults files.new) }
+    ensures writes { F.write_faults files.new ≡ F.write_faults files.old }
+{
+    match command {
+        Command::Drivers(name, bits) => reply_to_file(alloc, name, bits.as_slice(), files),
+        _ => unreachable!(),
     }
 }
 
@@ -87,14 +111,14 @@ fn reply_to<F: Files>(alloc: Global, words: &[String], files: &mut F) -> Result<
     ensures told { F.told files.old → F.told files.new }
     ensures content { F.file files.new ≡ F.file files.old }
     ensures reply { IsKnown (reading_of_words words.now) (F.told files.old) → IsReply (F.file files.old) (reading_of_words words.now) result }
-    ensures proper { IsProper (F.file files.old) (reading_of_words words.now) result }
+    ensures proper { IsKnown (reading_of_words words.now) (F.told files.old) → IsProper (F.file files.old) (reading_of_words words.now) result }
     ensures usage { UsageReply (reading_of_words words.now) result }
     ensures unread { IfErr (reading_of_words words.now) (λ _. files.new ≡ files.old) }
     ensures reads { ReplyCounts result (F.read_faults files.old) (F.read_faults files.new) }
     ensures writes { F.write_faults files.new ≡ F.write_faults files.old }
 {
     match read_words(alloc, words) {
-        Ok(Command::Drivers(name, bits)) => reply_to_file(alloc, name, bits.as_slice(), files),
+        Ok(command) => reply_to_command(alloc, command, files),
         Err(WordsError::Usage(word)) => usage(alloc, word),
         Err(WordsError::Memory) => Err(AllocError),
     }

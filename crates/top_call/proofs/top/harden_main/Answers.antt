@@ -1,9 +1,9 @@
-use Rattle.std.proofs.Common.{◌≡◌, ℕ, List, sym, subst}
+use Rattle.std.proofs.Common.{ℕ, List, sym, subst}
 use Rattle.design_files.specs.Parsed.{Files}
 use Rattle.run_ends.specs.Counts.{Faults, faults_between}
 use Rattle.run_ends.specs.Ends.{IsEnd}
 use Rattle.top_call.specs.Commands.{reading_of_words}
-use Rattle.top_call.specs.Statuses.{status_of}
+use Rattle.replies.specs.Statuses.{status_of}
 use Rattle.top_call.proofs.Ended.{printed_ends, printed_usage, keeps, unreplied_ends}
 use Rattle.top_call.proofs.top.harden_main.Goals as goal
 
@@ -16,7 +16,7 @@ returns-in-Ok-clause-ends g c = λ known told.
     let new : List ℕ = g.O.Sink.written c.print.new.out in
     subst (λ (now : Files). IsEnd files (reading_of_words c.args.words.now) faults output (status_of c.print.result) now new) (sym c.in-Ok.ensures.content)
     (printed_ends files (reading_of_words c.args.words.now) faults output new c.in-Ok.reply (status_of c.print.result) (c.in-Ok.ensures.reply known)
-    c.in-Ok.ensures.proper c.in-Ok.ensures.reads (c.print.ensures.prints told) c.print.ensures.faults)
+    (c.in-Ok.ensures.proper known) c.in-Ok.ensures.reads (c.print.ensures.prints told) c.print.ensures.faults)
 
 pub returns-in-Ok-clause-content : goal.returns-in-Ok-clause-content
 returns-in-Ok-clause-content g c =

@@ -2,7 +2,7 @@
 
 ghost use Rattle.std.specs.Prelude.{◌≡◌};
 ghost use Rattle.answers.specs.Answers as answers;
-ghost use Rattle.top_call.specs.Statuses.{status_of};
+ghost use Rattle.replies.specs.Statuses.{status_of};
 
 /// How a run ends; [`exit_number`] is the number that the program ends with.
 #[derive(Clone, Copy, Debug, PartialEq, Eq)]

@@ -1,7 +1,7 @@
 -- The status that a value of the program's enum is.
 use Rattle.answers.specs.Answers as answers
-use Rattle.top_call.specs.declared.status.Status.{Status}
-use Rattle.top_call.specs.declared.status.Status.TheVariants.{Done, Unsafe, NoRoute, Refused, Usage, ReadFault, WriteFault, Memory}
+use Rattle.replies.specs.declared.status.Status.{Status}
+use Rattle.replies.specs.declared.status.Status.TheVariants.{Done, Unsafe, NoRoute, Refused, Usage, ReadFault, WriteFault, Memory}
 
 abbrev pub status_of : Status → answers.Status
 status_of Done = answers.Done
