@@ -1,0 +1,8 @@
+use Rattle.cell_readings.proofs.Passing.{few_pins, many_pins}
+use Rattle.cell_readings.proofs.faults.has_each_assignment.Goals as goal
+
+pub returns-then-pins-ge64 : goal.returns-then-pins-ge64
+returns-then-pins-ge64 c = many_pins c.args.bits c.args.pins c.ranges.bits c.if-pins-ge64.true
+
+pub returns : goal.returns
+returns c = few_pins c.args.bits c.args.pins c.if-pins-ge64.false
