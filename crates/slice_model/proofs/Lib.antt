@@ -1,2 +1,6 @@
-mod Filtering
-mod Whole
+mod Walking
+mod AtSites
+mod InTurn
+mod Settings
+mod SmallWords
+mod OtherPads

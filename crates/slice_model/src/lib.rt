@@ -1,7 +1,6 @@
 //! The cells of an image: the tables, registers and pads at the sites that a side file names, or the first fault.
 #![tactic(auto)]
 
-mod cells;
 mod faults;
 mod pads;
 mod placing;
@@ -14,6 +13,7 @@ mod standing;
 mod tables;
 mod unnamed;
 mod values;
+mod whole;
 mod wires;
 
-pub use cells::cells;
+pub use whole::cells;

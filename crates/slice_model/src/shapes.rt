@@ -13,7 +13,7 @@ use cell_readings::{CellError, equal_shape};
 use cell_sites::{Kinds, SideNames, SliceSite};
 use named_graph::NamedGraph;
 use rr_ids::Name;
-use side_file::Triple;
+use side_file::{Side, Triple};
 
 // The site of the slice of a name.
 fn site_of<'a, G: NamedGraph>(
@@ -75,8 +75,8 @@ fn shape_fault<'a, G: NamedGraph>(
     Err(CellError::ShapeDiffers(triple.first.copy()?))
 }
 
-/// The first of triples whose slices stand at sites of unequal shape.
-pub(crate) fn first_unlike<'a, G: NamedGraph>(
+// The first of triples whose slices stand at sites of unequal shape.
+fn first_of_triples<'a, G: NamedGraph>(
     graph: &'a G,
     kinds: &Kinds<'a>,
     names: &SideNames<'a>,
@@ -88,4 +88,16 @@ pub(crate) fn first_unlike<'a, G: NamedGraph>(
         shape_fault(graph, kinds, names, triple)?;
     }
     Ok(())
+}
+
+/// The first of the triples of slices of a side file whose slices stand at sites of unequal shape.
+pub(crate) fn first_unlike<'a, G: NamedGraph>(
+    graph: &'a G,
+    kinds: &Kinds<'a>,
+    names: &SideNames<'a>,
+    side: &'a Side,
+) -> Result<(), CellError>
+    ensures { OrMemory (λ done. done) fault_of result (unless_fault (first_of (shape_fault_of (G.graph graph.now) kinds.now names.now) side.now.triples) tt) }
+{
+    first_of_triples(graph, kinds, names, side.triples.as_slice())
 }

@@ -1,9 +1,9 @@
 -- The fault of the cells, and the cells, from those at their sites.
-use Rattle.std.proofs.Common.{◌≡◌, List, [], ◌∷◌, ◌++◌, flat_map, map, Option, None, Some, refl, sym, ap, ap₂, ◌∙◌}
-use Rattle.std.specs.Prelude.{filter_map, option_map}
+use Rattle.std.proofs.Common.{◌≡◌, List, [], ◌∷◌, ◌++◌, flat_map, map, Option, None, Some, Result, Ok, Err, refl, sym, ap, ap₂, subst, ◌∙◌}
+use Rattle.std.specs.Prelude.{filter_map, option_map, IfSome}
 use Rattle.std.specs.List.{cons_option}
 use Rattle.std.specs.Option.{option_map_or, option_to_list}
-use Rattle.words.specs.Firsts.{or_else, first_fault, first_fault_after}
+use Rattle.words.specs.Firsts.{or_else, first_fault, first_fault_after, unless_fault}
 use Rattle.patterns.specs.Bits.{Bits}
 use Rattle.records.specs.Profile.{SliceKind, PadKind, Profile}
 use Rattle.records.specs.Side.{Placed, Side}
@@ -12,9 +12,12 @@ use Rattle.cells.specs.Sites.{Site, slice_site, pad_site, unnamed_pads}
 use Rattle.cells.specs.Resolved.{slice_cell, pad_cell}
 use Rattle.cells.specs.Readings.{Reading, pad_reading, slice_readings, unnamed_reading, readings, slices_of, pads_of}
 use Rattle.cells.specs.Faults.{CellFault, site_fault, shape_fault, value_fault, unnamed_fault, cell_fault}
-use Rattle.cells.specs.CellsOf.{slice_cells, pad_cells}
+use Rattle.cells.specs.CellsOf.{unless, slice_cells, pad_cells, cells_of}
 use Rattle.cell_readings.specs.First.{first_of}
+use Rattle.circuit.specs.Cells.{Cells}
+use Rattle.words.specs.OrMemory.{OrMemory}
 use Rattle.slice_model.specs.Standing.{standing}
+use Rattle.slice_model.specs.Turns.{slices_fault, pads_fault, modes_fault, faults_at, cells_at}
 use Rattle.cell_readings.proofs.First.{first_both, first_mapped, first_flat}
 
 pub alone : {X E : Type 0} (fault : X → Option E) (before xs : List X) → first_fault_after (λ b x. fault x) before xs ≡ first_of fault xs
@@ -94,3 +97,54 @@ faults_in_turn g profile image side =
     (ap₂ or_else (alone (λ (p : Placed). site_fault p.name (pad_site g profile p)) [] (pads_of side))
     (ap₂ or_else (alone (shape_fault g profile side) [] side.triples)
     (ap₂ or_else (alone value_fault [] (readings g profile image side)) (alone (unnamed_fault g image) [] (unnamed_pads g profile side)))))
+
+three : {E : Type 0} (a b c : Option E) → or_else (or_else a b) c ≡ or_else a (or_else b c)
+three None b c = refl
+three (Some e) b c = refl
+
+same_unless : {X E : Type 0} (o : Option E) (x : X) → unless o x ≡ unless_fault o x
+same_unless None x = refl
+same_unless (Some e) x = refl
+
+-- all faults of the cells, and the cells, from those at their sites
+pub whole : (g : Graph) (profile : Profile) (image : Bits) (side : Side)
+    → cells_of g profile image side
+    ≡ unless_fault (or_else (first_of (λ p. site_fault p.name (slice_site g profile p)) (slices_of side))
+    (or_else (first_of (λ p. site_fault p.name (pad_site g profile p)) (pads_of side))
+    (or_else (first_of (shape_fault g profile side) side.triples)
+    (faults_at g profile image side (standing (slice_site g profile) (slices_of side)) (standing (pad_site g profile) (pads_of side))))))
+    (cells_at g profile image side (standing (slice_site g profile) (slices_of side)) (standing (pad_site g profile) (pads_of side)))
+whole g profile image side =
+    let slices : List (Placed × Site SliceKind) = standing (slice_site g profile) (slices_of side) in
+    let pads : List (Placed × Site PadKind) = standing (pad_site g profile) (pads_of side) in
+    let driving : Option CellFault = first_of (unnamed_fault g image) (unnamed_pads g profile side) in
+    let values : or_else (first_of value_fault (readings g profile image side)) driving ≡ faults_at g profile image side slices pads =
+        ap (λ o. or_else o driving) (values_read g profile image side)
+        ∙ (three (slices_fault g image slices) (or_else (pads_fault g image side pads) (modes_fault g image (unnamed_pads g profile side))) driving
+        ∙ ap (or_else (slices_fault g image slices)) (three (pads_fault g image side pads) (modes_fault g image (unnamed_pads g profile side)) driving)) in
+    same_unless (cell_fault g profile image side) (record { slices = slice_cells g profile image side; pads = pad_cells g profile side })
+    ∙ ap₂ unless_fault
+    (faults_in_turn g profile image side
+    ∙ ap (λ o. or_else (first_of (λ p. site_fault p.name (slice_site g profile p)) (slices_of side))
+    (or_else (first_of (λ p. site_fault p.name (pad_site g profile p)) (pads_of side)) (or_else (first_of (shape_fault g profile side) side.triples) o))) values)
+    (ap₂ (λ ss ps. (let c : Cells = record { slices = ss; pads = ps } in c)) (slices_made g profile image side) (pads_made g profile side))
+
+-- a fault stops what comes behind it
+pub stops : {X Y E : Type 0} (o p found : Option E) (u : X) (v : Y) → IfSome found (λ f. unless_fault o u ≡ Err f) → IfSome found (λ f. unless_fault (or_else o p) v ≡ Err f)
+stops o p None u v h = tt
+stops None p (Some f) u v h = absurd (let no : ⊥ = cc in no)
+stops (Some g) p (Some f) u v h = ap Err (let same : g ≡ f = cc in same)
+
+-- where there is none, what comes behind it goes on
+pub goes_on : {X Y E : Type 0} (o p : Option E) (u x : X) (v : Y) → unless_fault o u ≡ Ok x → unless_fault p v ≡ unless_fault (or_else o p) v
+goes_on None p u x v e = refl
+goes_on (Some f) p u x v e = absurd (let no : ⊥ = cc in no)
+
+pub stops_later : {X Y E : Type 0} (o p found : Option E) (u x : X) (v : Y) → unless_fault o u ≡ Ok x → IfSome found (λ f. unless_fault p v ≡ Err f)
+    → IfSome found (λ f. unless_fault (or_else o p) v ≡ Err f)
+stops_later o p found u x v e h = subst (λ r. IfSome found (λ f. r ≡ Err f)) (goes_on o p u x v e) h
+
+-- and what was found is there
+pub is_found : {X E : Type 0} (o : Option E) (u x : X) → unless_fault o u ≡ Ok x → u ≡ x
+is_found None u x e = (let same : u ≡ x = cc in same)
+is_found (Some f) u x e = absurd (let no : ⊥ = cc in no)

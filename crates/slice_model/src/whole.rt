@@ -3,11 +3,11 @@
 ghost use Rattle.std.specs.Prelude.{◌≡◌, IfOk};
 ghost use Rattle.words.specs.Firsts.{unless_fault};
 ghost use Rattle.words.specs.OrMemory.{OrMemory};
-ghost use Rattle.words.specs.Ordered.{in_order};
 ghost use Rattle.cell_readings.specs.Errors.{fault_of};
 ghost use Rattle.cell_readings.specs.First.{first_of};
 ghost use Rattle.cells.specs.CellsOf.{cells_of};
 ghost use Rattle.cells.specs.Faults.{site_fault};
+ghost use Rattle.cells.specs.Readings.{pads_of, slices_of};
 ghost use Rattle.cells.specs.Sites.{pad_site, slice_site};
 ghost use Rattle.cram_image.specs.Image.{bits};
 ghost use Rattle.named_graph.specs.Standing.{StandsInTiles};
@@ -28,7 +28,7 @@ use cell_sites::{Kinds, SideNames, in_name_order};
 use cram_image::Image;
 use named_graph::NamedGraph;
 use routing_graph::RoutingGraph;
-use side_file::{Placed, Side};
+use side_file::Side;
 use std::alloc::{AllocError, Global};
 
 // The slices of a side file at their sites, in byte order of names; or the first that has none.
@@ -36,13 +36,13 @@ fn placed_slices<'a, G: NamedGraph>(
     alloc: Global,
     graph: &'a G,
     kinds: &Kinds<'a>,
-    slices: &'a [Placed],
+    side: &'a Side,
 ) -> Result<Vec<PlacedSlice<'a>>, CellError>
     ensures { OrMemory (λ found. found.items) fault_of result
-        (unless_fault (first_of (λ p. site_fault p.name (slice_site (G.graph graph.now) kinds.now p)) (in_order (λ p. p.name) slices.now))
-        (standing (slice_site (G.graph graph.now) kinds.now) (in_order (λ p. p.name) slices.now))) }
+        (unless_fault (first_of (λ p. site_fault p.name (slice_site (G.graph graph.now) kinds.now p)) (slices_of side.now))
+        (standing (slice_site (G.graph graph.now) kinds.now) (slices_of side.now))) }
 {
-    let ordered = in_name_order(alloc, slices)?;
+    let ordered = in_name_order(alloc, side.slices.as_slice())?;
     slices_at_sites(alloc, graph, kinds, ordered.as_slice())
 }
 
@@ -51,13 +51,13 @@ fn placed_pads<'a, G: NamedGraph>(
     alloc: Global,
     graph: &'a G,
     kinds: &Kinds<'a>,
-    pads: &'a [Placed],
+    side: &'a Side,
 ) -> Result<Vec<PlacedPad<'a>>, CellError>
     ensures { OrMemory (λ found. found.items) fault_of result
-        (unless_fault (first_of (λ p. site_fault p.name (pad_site (G.graph graph.now) kinds.now p)) (in_order (λ p. p.name) pads.now))
-        (standing (pad_site (G.graph graph.now) kinds.now) (in_order (λ p. p.name) pads.now))) }
+        (unless_fault (first_of (λ p. site_fault p.name (pad_site (G.graph graph.now) kinds.now p)) (pads_of side.now))
+        (standing (pad_site (G.graph graph.now) kinds.now) (pads_of side.now))) }
 {
-    let ordered = in_name_order(alloc, pads)?;
+    let ordered = in_name_order(alloc, side.pads.as_slice())?;
     pads_at_sites(alloc, graph, kinds, ordered.as_slice())
 }
 
@@ -122,9 +122,9 @@ fn cells_named<'a, G: RoutingGraph>(
     requires names { names.now ≡ side.now }
     ensures { OrMemory (λ cells. cells) fault_of result (cells_of (G.graph graph.now) profile.now (bits image.now) side.now) }
 {
-    let slices = placed_slices(alloc, graph, kinds, side.slices.as_slice())?;
-    let pads = placed_pads(alloc, graph, kinds, side.pads.as_slice())?;
-    first_unlike(graph, kinds, names, side.triples.as_slice())?;
+    let slices = placed_slices(alloc, graph, kinds, side)?;
+    let pads = placed_pads(alloc, graph, kinds, side)?;
+    first_unlike(graph, kinds, names, side)?;
     cells_at_sites(alloc, graph, image, profile, names, slices.as_slice(), pads.as_slice())
 }
 

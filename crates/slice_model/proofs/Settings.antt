@@ -1,0 +1,31 @@
+-- The settings of a tile, and the bits of its words.
+use Rattle.std.proofs.Common.{◌≡◌, ℕ, ◌≤◌, Bool, List, [], length, Option, None, Some, option_map, refl, sym, ap, subst, ◌∙◌}
+use Rattle.std.specs.Prelude.{slice_get, option_and_then, unwrap_or}
+use Rattle.std.specs.Option.{option_map_or}
+use Rattle.patterns.specs.Bits.{Bits}
+use Rattle.records.specs.Database.{WordSetting}
+use Rattle.records.specs.Grid.{Tile, origin_of}
+use Rattle.fabric.specs.Graph.{Graph}
+use Rattle.fabric.specs.Settings.{Settings, word_named, word_bits}
+use Rattle.fabric.specs.Values.{word_at}
+use Rattle.cells.specs.Sites as sites
+use Rattle.named_graph.specs.Standing.{settings_at}
+
+-- both words for the settings of a tile mean the same
+pub same_settings : {K : Type 0} (g : Graph) (s : sites.Site K) → settings_at g s.number ≡ sites.settings_at g s
+same_settings g s = go (slice_get g.settings s.number)
+  where
+    go : (o : Option Settings) → option_map_or (λ settings. settings) o (record { words = []; enums = [] }) ≡ unwrap_or o (record { words = []; enums = [] })
+    go None = refl
+    go (Some settings) = refl
+
+-- the bits of the word of a name in a tile
+pub word_is : (g : Graph) (image : Bits) (t : ℕ) (name : List ℕ) (tile : Tile) → slice_get g.grid.tiles t ≡ Some tile
+    → word_at g image t name ≡ option_map (word_bits image (origin_of tile)) (word_named (settings_at g t) name)
+word_is g image t name tile e =
+    ap (λ o. option_and_then (λ u. option_and_then (λ settings. option_map (word_bits image (origin_of u)) (word_named settings name)) (slice_get g.settings t)) o) e ∙ go (slice_get g.settings t)
+  where
+    go : (o : Option Settings) → option_and_then (λ settings. option_map (word_bits image (origin_of tile)) (word_named settings name)) o
+        ≡ option_map (word_bits image (origin_of tile)) (word_named (option_map_or (λ settings. settings) o (record { words = []; enums = [] })) name)
+    go None = refl
+    go (Some s) = refl
