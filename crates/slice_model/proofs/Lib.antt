@@ -1,4 +1,4 @@
-mod Walking
+pub mod Walking
 mod AtSites
 mod InTurn
 mod Settings

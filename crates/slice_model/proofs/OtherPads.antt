@@ -52,21 +52,24 @@ rest_of [] i tile e = absurd (let no : ⊥ = cc in no)
 rest_of (t ∷ ts) zero tile e = ap (λ u. u ∷ ts) (let same : t ≡ tile = cc in same)
 rest_of (t ∷ ts) (suc i) tile e = rest_of ts i tile e
 
+rest_at : (tiles : List Tile) (i : ℕ) (tile : Tile) → slice_get tiles i ≡ Some tile → drop i tiles ≡ tile ∷ drop (i + 1) tiles
+rest_at tiles i tile e = rest_of tiles i tile e ∙ ap (λ n. tile ∷ drop n tiles) (sym (add-one i))
+
 module _ (profile : Profile) (side : Side) where
   first_in : (n : ℕ) (tile : Tile) (tiles : List Tile)
-      → unnamed_in profile side n (tile ∷ tiles) ≡ filter (λ s. not (is_named side s)) (tile_pad_sites profile n tile) ++ unnamed_in profile side (suc n) tiles
-  first_in n tile tiles = filter_both (λ s. not (is_named side s)) (tile_pad_sites profile n tile) (flat_map (λ t. tile_pad_sites profile t.0 t.1) (enumerate_from (suc n) tiles))
+      → unnamed_in profile side n (tile ∷ tiles) ≡ filter (λ s. not (is_named side s)) (tile_pad_sites profile n tile) ++ unnamed_in profile side (n + 1) tiles
+  first_in n tile tiles = filter_both (λ s. not (is_named side s)) (tile_pad_sites profile n tile) (flat_map (λ t. tile_pad_sites profile t.0 t.1) (enumerate_from (n + 1) tiles))
 
   pub tile_step : (tiles : List Tile) (n : ℕ) (tile : Tile) (old new all : List (Site PadKind)) → slice_get tiles n ≡ Some tile
       → new ≡ old ++ filter (λ s. not (is_named side s)) (tile_pad_sites profile n tile) → old ++ unnamed_in profile side n (drop n tiles) ≡ all
       → new ++ unnamed_in profile side (n + 1) (drop (n + 1) tiles) ≡ all
-  tile_step tiles n tile old new all e made h = rw add-one
-      (ap (λ ss. ss ++ unnamed_in profile side (suc n) (drop (suc n) tiles)) made
-      ∙ (append_assoc old (filter (λ s. not (is_named side s)) (tile_pad_sites profile n tile)) (unnamed_in profile side (suc n) (drop (suc n) tiles))
-      ∙ (ap (λ ss. old ++ ss) (sym (ap (unnamed_in profile side n) (rest_of tiles n tile e) ∙ first_in n tile (drop (suc n) tiles))) ∙ h)))
+  tile_step tiles n tile old new all e made h =
+      ap (λ ss. ss ++ unnamed_in profile side (n + 1) (drop (n + 1) tiles)) made
+      ∙ (append_assoc old (filter (λ s. not (is_named side s)) (tile_pad_sites profile n tile)) (unnamed_in profile side (n + 1) (drop (n + 1) tiles))
+      ∙ (ap (λ ss. old ++ ss) (sym (ap (unnamed_in profile side n) (rest_at tiles n tile e) ∙ first_in n tile (drop (n + 1) tiles))) ∙ h))
 
   pub tile_end : (tiles : List Tile) (n : ℕ) (old all : List (Site PadKind)) → length tiles ≤ n → old ++ unnamed_in profile side n (drop n tiles) ≡ all → old ≡ all
-  tile_end tiles n old all l h = sym (append-nil old) ∙ (ap (λ ts. old ++ unnamed_in profile side n ts) (sym (drop_all tiles n l)) ∙ h)
+  tile_end tiles n old all l h = sym (append-nil old) ∙ (ap (λ ts. old ++ unnamed_in profile side n ts) (sym (drop_all n tiles l)) ∙ h)
 
 -- unnamed pads stand in the grid
 of_filter : {X : Type 0} (t : X → Bool) (xs : List X) (x : X) → In (filter t xs) x → In xs x
@@ -81,7 +84,7 @@ of_enumerated : (first : ℕ) (tiles : List Tile) (q : ℕ × Tile) → In (enum
 of_enumerated first [] q i = absurd i
 of_enumerated first (t ∷ ts) q i = elim i [
   | inl e ↦ (zero, ((let z : first + zero ≡ first = omega arith in z ∙ ap (λ (r : ℕ × Tile). r.0) e), ap (λ (r : ℕ × Tile). Some r.1) e))
-  | inr j ↦ (let r = of_enumerated (suc first) ts q j in (suc r.0, ((let z : first + suc r.0 ≡ suc first + r.0 = omega arith in z ∙ r.1.0), r.1.1)))
+  | inr j ↦ (let r = of_enumerated (first + 1) ts q j in (suc r.0, ((let z : first + suc r.0 ≡ (first + 1) + r.0 = omega arith in z ∙ r.1.0), r.1.1)))
 ]
 
 in_tile : {K : Type 0} (number : ℕ) (tile : Tile) (kinds : List K) (s : Site K) → In (filter_map (site_in number tile) kinds) s → (number ≡ s.number) × (tile ≡ s.tile)

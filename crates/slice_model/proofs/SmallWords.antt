@@ -3,7 +3,7 @@ use Rattle.std.proofs.Common.{◌≡◌, ℕ, ◌^◌, ◌≤◌, Bool, true, fa
 use Rattle.std.specs.Prelude.{◌==◌, unwrap_or, codes, if◌then◌else◌}
 use Rattle.std.specs.Option.{option_map_or}
 use Rattle.std.proofs.lemmas.Bool.Decides.{Decides-eqb}
-use Rattle.std.proofs.lemmas.Nat.{pow-le-pow}
+use Rattle.std.proofs.Math.Pow.{pow_mono}
 use Rattle.words.specs.Firsts.{or_else, unless_fault}
 use Rattle.words.specs.Members.{In}
 use Rattle.patterns.specs.Bits.{Bits}
@@ -35,7 +35,7 @@ modelled r h = go r.modelled h
     go false e = absurd (let no : ⊥ = cc in no)
 
 few_bits : (n p : ℕ) → n ≡ 2 ^ p → p ≤ 4 → n ≤ 16
-few_bits n p e l = let most = pow-le-pow 2 p 4 l in omega arith
+few_bits n p e l = let most : 2 ^ p ≤ 2 ^ 4 = pow_mono l in omega arith
 
 small_word : (o : Option (List Bool)) (pins : ℕ) → option_map_or (λ bits. length bits == 2 ^ pins) o false ≡ true → pins ≤ 4 → length (unwrap_or o []) ≤ 16
 small_word None pins h l = absurd (let no : ⊥ = cc in no)

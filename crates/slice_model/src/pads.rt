@@ -72,6 +72,7 @@ fn pad_cell<'a, G: RoutingGraph>(
 }
 
 /// Placed pads at their sites, in their order.
+#[tactic(auto, using(crate::proofs::Walking::map_more, crate::proofs::Walking::map_all))]
 pub(crate) fn pad_cells<'a, G: RoutingGraph>(
     alloc: Global,
     graph: &G,

@@ -78,6 +78,7 @@ fn register_cell<G: RoutingGraph>(
 }
 
 /// The registers of kinds at a site, in their order.
+#[tactic(auto, using(crate::proofs::Walking::map_more, crate::proofs::Walking::map_all))]
 pub(crate) fn register_cells<G: RoutingGraph>(
     alloc: Global,
     graph: &G,

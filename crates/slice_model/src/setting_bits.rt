@@ -27,6 +27,7 @@ fn device_bit(tile: &Tile, p: &PatternBit) -> DeviceBit
 }
 
 // Adds the device bits that a pattern names.
+#[tactic(auto, using(crate::proofs::Walking::map_more, crate::proofs::Walking::map_all))]
 fn add_pattern(
     bits: &mut Vec<DeviceBit>,
     tile: &Tile,
@@ -41,6 +42,7 @@ fn add_pattern(
 }
 
 // Adds the device bits that patterns name.
+#[tactic(auto, using(crate::proofs::Walking::flat_more, crate::proofs::Walking::flat_all))]
 fn add_patterns(
     bits: &mut Vec<DeviceBit>,
     tile: &Tile,
@@ -55,6 +57,7 @@ fn add_patterns(
 }
 
 // Adds the device bits that the patterns of options name.
+#[tactic(auto, using(crate::proofs::Walking::flat_more, crate::proofs::Walking::flat_all))]
 fn add_options(
     bits: &mut Vec<DeviceBit>,
     tile: &Tile,
@@ -114,6 +117,7 @@ fn add_setting<G: NamedGraph>(
 }
 
 /// The device bits of the settings of names in a tile, in the order of the names and in file order.
+#[tactic(auto, using(crate::proofs::Walking::flat_more, crate::proofs::Walking::flat_all))]
 pub(crate) fn bits_of_settings<G: NamedGraph>(
     alloc: Global,
     graph: &G,

@@ -53,6 +53,7 @@ fn slice_cell<G: RoutingGraph>(
 }
 
 /// Placed slices at their sites, in their order.
+#[tactic(auto, using(crate::proofs::Walking::map_more, crate::proofs::Walking::map_all))]
 pub(crate) fn slice_cells<G: RoutingGraph>(
     alloc: Global,
     graph: &G,

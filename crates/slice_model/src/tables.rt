@@ -49,6 +49,7 @@ fn table_cell<G: RoutingGraph>(
 }
 
 /// The tables of kinds at a site, in their order.
+#[tactic(auto, using(crate::proofs::Walking::map_more, crate::proofs::Walking::map_all))]
 pub(crate) fn table_cells<G: RoutingGraph>(
     alloc: Global,
     graph: &G,

@@ -21,6 +21,7 @@ pub(crate) fn wire_number<G: RoutingGraph>(graph: &G, t: TileId, name: &Name) ->
 }
 
 /// The numbers of the wires that names stand for, in their order.
+#[tactic(auto, using(crate::proofs::Walking::map_more, crate::proofs::Walking::map_all))]
 pub(crate) fn wire_numbers<G: RoutingGraph>(
     alloc: Global,
     graph: &G,
