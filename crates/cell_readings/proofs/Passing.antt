@@ -4,7 +4,8 @@ use Rattle.std.specs.Prelude.{IfSome, codes, unwrap_or, slice_get, option_and_th
 use Rattle.std.specs.Option.{option_map_or}
 use Rattle.std.proofs.lemmas.Bool.{false_from_ne_true}
 use Rattle.std.proofs.lemmas.Bool.Decides.{Decides-eqb}
-use Rattle.std.proofs.lemmas.Nat.{one_shl, pow_below}
+use Rattle.std.proofs.lemmas.Nat.{one_shl}
+use Rattle.std.proofs.Math.Pow.{pow_mono}
 use Rattle.words.specs.Firsts.{unless_fault}
 use Rattle.patterns.specs.Bits.{DeviceBit, Bits}
 use Rattle.records.specs.Database.{WordSetting}
@@ -21,16 +22,12 @@ use Rattle.cells.specs.Faults.{CellFault, Unmodelled, value_fault}
 pub few_pins : (bits pins : ℕ) → pins < 64 → (bits == 1 * 2 ^ pins % 2 ^ 64) ≡ (bits == 2 ^ pins)
 few_pins bits pins l = ap (λ n. bits == n) (one_shl pins 64 l)
 
-no_less : (pins : ℕ) → 64 ≤ pins → 2 ^ 64 ≤ 2 ^ pins
-no_less pins l = go (let k : (pins ≡ 64) ⊎ (64 < pins) = omega arith in k)
-  where
-    go : (pins ≡ 64) ⊎ (64 < pins) → 2 ^ 64 ≤ 2 ^ pins
-    go (inl e) = subst (λ n. 2 ^ 64 ≤ 2 ^ n) (sym e) (omega arith)
-    go (inr k) = let h = pow_below 64 pins k in omega arith
+less : (n m p : ℕ) → n < m → m ≤ p → n ≡ p → ⊥
+less n m p b l e = omega arith
 
 pub many_pins : (bits pins : ℕ) → bits < 2 ^ 64 → 64 ≤ pins → false ≡ (bits == 2 ^ pins)
 many_pins bits pins b l =
-    sym (false_from_ne_true (bits == 2 ^ pins) (λ e. (let same : bits ≡ 2 ^ pins = (Decides-eqb bits (2 ^ pins)).0 e in let most : 2 ^ 64 ≤ 2 ^ pins = no_less pins l in let no : ⊥ = omega arith in no)))
+    sym (false_from_ne_true (bits == 2 ^ pins) (λ e. less bits (2 ^ 64) (2 ^ pins) b (pow_mono l) ((Decides-eqb bits (2 ^ pins)).0 e)))
 
 -- a setting that is modelled has no fault
 pub passes : (r : Reading) → r.modelled ≡ true → unless_fault (value_fault r) (tt {0}) ≡ Ok (tt {0})

@@ -43,12 +43,14 @@ impl<'a> PadRows<'a> {
     }
 
     /// The kinds of pads of the type of a tile, in byte order of names.
-    pub fn kinds_in(&self, tile: &'a Tile) -> &[&'a PadKind]
+    pub fn kinds_in<'s>(&'s self, tile: &'a Tile) -> &'s [&'a PadKind]
+    where
+        'a: 's,
         ensures { map (λ kind. kind.now) result.now ≡ in_order (λ k. k.name) (filter (λ k. bytes_eq k.tile tile.now.kind) self.now.pads) }
     {
-        match row(&self.rows, &tile.kind) {
-            Some(kinds) => kinds.as_slice(),
-            None => &[],
-        }
+        let Some(kinds) = row(&self.rows, &tile.kind) else {
+            return &[];
+        };
+        kinds.as_slice()
     }
 }

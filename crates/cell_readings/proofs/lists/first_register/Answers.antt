@@ -13,7 +13,7 @@ loop-register-preserved g c = first_passed (λ x. first_of value_fault (register
 pub returns-in_err-register_fault : goal.returns-in_err-register_fault
 returns-in_err-register_fault g c =
     let p = err_from_is_err_and c.from_residual.result c.from_residual.ensures.1 in
-    rw (p.1, p.2) (first_found (λ x. first_of value_fault (register_readings (g.G.NamedGraph.graph c.args.graph.now) (bits c.args.image.now) c.args.cell.now c.args.t x)) c.args.registers.now c.loop-register.register-index c.register-item.result (fault_of c.in_err-register_fault.error) c.loop-register-test.true c.register-item.is c.in_err-register_fault.ensures c.loop-register.invariant)
+    rw (p.1, p.2) (first_found (λ x. first_of value_fault (register_readings (g.G.NamedGraph.graph c.args.graph.now) (bits c.args.image.now) c.args.cell.now c.args.t x)) c.args.registers.now c.loop-register.register-index c.register-item.result (fault_of c.in_err-register_fault.field-0.0) c.loop-register-test.true c.register-item.is c.in_err-register_fault.ensures c.loop-register.invariant)
 
 pub returns : goal.returns
 returns g c = first_end (λ x. first_of value_fault (register_readings (g.G.NamedGraph.graph c.args.graph.now) (bits c.args.image.now) c.args.cell.now c.args.t x)) c.args.registers.now c.loop-register.register-index c.loop-register-test.false c.loop-register.invariant

@@ -13,7 +13,7 @@ loop-require-preserved g c = first_passed (λ x. value_fault (require_reading (g
 pub returns-in_err-require_fault : goal.returns-in_err-require_fault
 returns-in_err-require_fault g c =
     let p = err_from_is_err_and c.from_residual.result c.from_residual.ensures.1 in
-    rw (p.1, p.2) (first_found (λ x. value_fault (require_reading (g.G.NamedGraph.graph c.args.graph.now) (bits c.args.image.now) c.args.cell.now c.args.t x)) c.args.requirements.now c.loop-require.require-index c.require-item.result (fault_of c.in_err-require_fault.error) c.loop-require-test.true c.require-item.is c.in_err-require_fault.ensures c.loop-require.invariant)
+    rw (p.1, p.2) (first_found (λ x. value_fault (require_reading (g.G.NamedGraph.graph c.args.graph.now) (bits c.args.image.now) c.args.cell.now c.args.t x)) c.args.requirements.now c.loop-require.require-index c.require-item.result (fault_of c.in_err-require_fault.field-0.0) c.loop-require-test.true c.require-item.is c.in_err-require_fault.ensures c.loop-require.invariant)
 
 pub returns : goal.returns
 returns g c = first_end (λ x. value_fault (require_reading (g.G.NamedGraph.graph c.args.graph.now) (bits c.args.image.now) c.args.cell.now c.args.t x)) c.args.requirements.now c.loop-require.require-index c.loop-require-test.false c.loop-require.invariant

@@ -25,10 +25,10 @@ returns-in_err-first_required g c =
     let three : Option CellFault = first_of (λ z. first_of value_fault (d z)) k.registers in
     let p = err_from_is_err_and c.from_residual.result c.from_residual.ensures.1 in
     rw (p.1, p.2)
-    (subst (λ (s : SliceKind). IfSome (fault_of c.in_err-first_required.error) (λ f. unless_fault (first_of value_fault (kind_readings (g.G.NamedGraph.graph c.args.graph.now) (bits c.args.image.now) c.args.cell.now c.args.t s)) (tt {0}) ≡ Err f)) c.kind.view_is
-    (subst (λ (o : Option CellFault). IfSome (fault_of c.in_err-first_required.error) (λ f. unless_fault o (tt {0}) ≡ Err f)) (in_three value_fault a b d k.require k.tables k.registers)
-    (found_first one (or_else two three) (fault_of c.in_err-first_required.error)
-    (subst (λ (xs : List Require). IfSome (fault_of c.in_err-first_required.error) (λ f. unless_fault (first_of (λ x. value_fault (a x)) xs) (tt {0}) ≡ Err f)) c.as_slice.ensures c.in_err-first_required.ensures))))
+    (subst (λ (s : SliceKind). IfSome (fault_of c.in_err-first_required.field-0.0) (λ f. unless_fault (first_of value_fault (kind_readings (g.G.NamedGraph.graph c.args.graph.now) (bits c.args.image.now) c.args.cell.now c.args.t s)) (tt {0}) ≡ Err f)) c.kind.view_is
+    (subst (λ (o : Option CellFault). IfSome (fault_of c.in_err-first_required.field-0.0) (λ f. unless_fault o (tt {0}) ≡ Err f)) (in_three value_fault a b d k.require k.tables k.registers)
+    (found_first one (or_else two three) (fault_of c.in_err-first_required.field-0.0)
+    (subst (λ (xs : List Require). IfSome (fault_of c.in_err-first_required.field-0.0) (λ f. unless_fault (first_of (λ x. value_fault (a x)) xs) (tt {0}) ≡ Err f)) c.as_slice.ensures c.in_err-first_required.ensures))))
 
 pub returns-in_err-first_table : goal.returns-in_err-first_table
 returns-in_err-first_table g c =
@@ -42,10 +42,10 @@ returns-in_err-first_table g c =
     let first : unless_fault one (tt {0}) ≡ Ok (tt {0}) = subst (λ (xs : List Require). unless_fault (first_of (λ x. value_fault (a x)) xs) (tt {0}) ≡ Ok (tt {0})) c.as_slice.ensures c.in_ok-first_required.ensures in
     let p = err_from_is_err_and c.from_residual-in_err-first_table.result c.from_residual-in_err-first_table.ensures.1 in
     rw (p.1, p.2)
-    (subst (λ (s : SliceKind). IfSome (fault_of c.in_err-first_table.error) (λ f. unless_fault (first_of value_fault (kind_readings (g.G.NamedGraph.graph c.args.graph.now) (bits c.args.image.now) c.args.cell.now c.args.t s)) (tt {0}) ≡ Err f)) c.kind.view_is
-    (subst (λ (o : Option CellFault). IfSome (fault_of c.in_err-first_table.error) (λ f. unless_fault o (tt {0}) ≡ Err f)) (in_three value_fault a b d k.require k.tables k.registers)
-    (found_later one (or_else two three) (fault_of c.in_err-first_table.error) first (found_first two three (fault_of c.in_err-first_table.error)
-    (subst (λ (ys : List TableKind). IfSome (fault_of c.in_err-first_table.error) (λ f. unless_fault (first_of (λ y. value_fault (b y)) ys) (tt {0}) ≡ Err f)) c.as_slice-2.ensures c.in_err-first_table.ensures)))))
+    (subst (λ (s : SliceKind). IfSome (fault_of c.in_err-first_table.field-0.0) (λ f. unless_fault (first_of value_fault (kind_readings (g.G.NamedGraph.graph c.args.graph.now) (bits c.args.image.now) c.args.cell.now c.args.t s)) (tt {0}) ≡ Err f)) c.kind.view_is
+    (subst (λ (o : Option CellFault). IfSome (fault_of c.in_err-first_table.field-0.0) (λ f. unless_fault o (tt {0}) ≡ Err f)) (in_three value_fault a b d k.require k.tables k.registers)
+    (found_later one (or_else two three) (fault_of c.in_err-first_table.field-0.0) first (found_first two three (fault_of c.in_err-first_table.field-0.0)
+    (subst (λ (ys : List TableKind). IfSome (fault_of c.in_err-first_table.field-0.0) (λ f. unless_fault (first_of (λ y. value_fault (b y)) ys) (tt {0}) ≡ Err f)) c.as_slice-2.ensures c.in_err-first_table.ensures)))))
 
 pub returns : goal.returns
 returns g c =
