@@ -1,7 +1,8 @@
 -- Records that a map finds by two names, from the last to the first.
-use Rattle.std.proofs.Common.{◌≡◌, ℕ, Bool, true, false, cond, List, ◌∷◌, Option, None, Some, refl, sym, ap, ap₂, ◌∙◌, bytes_eq}
-use Rattle.std.specs.Prelude.{find, ◌&&◌}
-use Rattle.std.specs.Option.{option_copied}
+use Rattle.std.proofs.Common.{◌≡◌, ℕ, Bool, true, false, cond, List, [], ◌∷◌, Option, None, Some, refl, sym, ap, ap₂, ◌∙◌, bytes_eq}
+use Rattle.std.specs.Prelude.{find, ◌&&◌, ◌||◌}
+use Rattle.std.specs.List.{list_any}
+use Rattle.std.specs.Option.{option_copied, is_some}
 use Rattle.std.specs.declared.cmp.Ordering.{Ordering}
 use Rattle.std.specs.declared.cmp.Ordering.TheVariants.{Less, Equal, Greater}
 use Rattle.std.specs.Ordering.{nat_cmp, ordering_then, is_eq}
@@ -39,3 +40,19 @@ module _ {X : Type 0} (first second : X → List ℕ) where
       → ((q : Pair) → get pair_cmp new q ≡ cond (is_eq (pair_cmp key q)) (Some x) (get pair_cmp old q))
       → HoldsPairs first second items old → HoldsPairs first second (x.now ∷ items) new
   put_holds key x old new items f s updated held = record { found = put_at key x old new items f s updated held }
+
+any_found : {X : Type 0} (t : X → Bool) (xs : List X) → is_some (find t xs) ≡ list_any t xs
+any_found t [] = refl
+any_found {X} t (x ∷ xs) = go (t x) (any_found t xs)
+  where
+    go : (b : Bool) → is_some (find t xs) ≡ list_any t xs → is_some (cond b (Some x) (find t xs)) ≡ (b || list_any t xs)
+    go true e = refl
+    go false e = e
+
+there_copied : {X : Type 0} (o : Option (Bor X)) → is_some o ≡ is_some (option_copied o)
+there_copied None = refl
+there_copied (Some x) = refl
+
+-- a record that is found is there
+pub is_there : {X : Type 0} (t : X → Bool) (items : List X) (found : Option (Bor X)) (b : Bool) → option_copied found ≡ find t items → b ≡ is_some found → b ≡ list_any t items
+is_there t items found b e h = h ∙ (there_copied found ∙ (ap is_some e ∙ any_found t items))

@@ -1,12 +1,15 @@
 //! The kinds of pads in rows by their types of tiles.
 
-ghost use Rattle.std.specs.Prelude.{◌≡◌, IfOk, filter, map};
+ghost use Rattle.std.specs.Prelude.{◌≡◌, IfOk, filter};
+ghost use Rattle.std.specs.Option.{option_copied};
 ghost use Rattle.std.specs.Str.{bytes_eq};
 ghost use Rattle.words.specs.Ordered.{in_order};
+ghost use Rattle.cell_sites.specs.Rows.{row_items};
 
 use crate::in_order::in_name_order;
 use crate::rows::{Rows, row, rows_of};
 use cell_profile::{PadKind, Profile};
+use rr_ids::List;
 use std::alloc::{AllocError, Global};
 use std::marker::Model;
 use tile_grid::Tile;
@@ -42,15 +45,10 @@ impl<'a> PadRows<'a> {
         })
     }
 
-    /// The kinds of pads of the type of a tile, in byte order of names.
-    pub fn kinds_in<'s>(&'s self, tile: &'a Tile) -> &'s [&'a PadKind]
-    where
-        'a: 's,
-        ensures { map (λ kind. kind.now) result.now ≡ in_order (λ k. k.name) (filter (λ k. bytes_eq k.tile tile.now.kind) self.now.pads) }
+    /// The kinds of pads of the type of a tile, in byte order of names; `None` where there are none.
+    pub fn kinds_in(&self, tile: &'a Tile) -> Option<&List<&'a PadKind>>
+        ensures { row_items (option_copied result) ≡ in_order (λ k. k.name) (filter (λ k. bytes_eq k.tile tile.now.kind) self.now.pads) }
     {
-        let Some(kinds) = row(&self.rows, &tile.kind) else {
-            return &[];
-        };
-        kinds.as_slice()
+        row(&self.rows, &tile.kind)
     }
 }

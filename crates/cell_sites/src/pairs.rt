@@ -1,6 +1,7 @@
 //! Records under the two names that tell them apart.
 
 ghost use Rattle.std.specs.Prelude.{◌≡◌, ◌∷◌, ◌&&◌, List, IfOk, OnOk, find};
+ghost use Rattle.std.specs.List.{list_any};
 ghost use Rattle.std.specs.Option.{option_copied};
 ghost use Rattle.std.specs.Str.{bytes_eq};
 ghost use Rattle.cell_sites.specs.Pairs.{HoldsPairs};
@@ -47,4 +48,16 @@ pub(crate) fn pair_named<'a, T: Paired>(
         → option_copied result ≡ find (λ x. bytes_eq (T.first x) first.now && bytes_eq (T.second x) second.now) items }
 {
     by_pair.get(&(first.bytes(), second.bytes())).copied()
+}
+
+/// Whether there is a record of two names.
+pub(crate) fn has_pair<'a, T: Paired>(
+    by_pair: &ByPair<'a, T>,
+    first: &'a Name,
+    second: &'a Name,
+) -> bool
+    ensures { (items : List T) → HoldsPairs T.first T.second items by_pair.now
+        → result ≡ list_any (λ x. bytes_eq (T.first x) first.now && bytes_eq (T.second x) second.now) items }
+{
+    pair_named(by_pair, first, second).is_some()
 }

@@ -9,7 +9,7 @@ ghost use Rattle.cells.specs.Resolved.{role_of};
 
 use crate::entries::{entries_of, has_entry};
 use crate::first_named::{FirstNamed, find_named, first_named};
-use crate::pairs::{ByPair, by_pair, pair_named};
+use crate::pairs::{ByPair, by_pair, has_pair};
 use cell_parts::Role;
 use rr_ids::Name;
 use side_file::{Placed, Side};
@@ -64,7 +64,7 @@ impl<'a> SideNames<'a> {
     pub fn has_pad_at(&self, tile: &'a Name, kind: &'a Name) -> bool
         ensures { result ≡ list_any (λ p. bytes_eq p.tile tile.now && bytes_eq p.kind kind.now) self.now.pads }
     {
-        pair_named(&self.pads, tile, kind).is_some()
+        has_pair(&self.pads, tile, kind)
     }
 
     /// The role of a pad: the list of triples in which its name stands.

@@ -63,7 +63,10 @@ fn add_tile<'a>(
     if tile.place.is_none() {
         return Ok(());
     }
-    add_kinds(sites, names, number, tile, rows.kinds_in(tile))
+    match rows.kinds_in(tile) {
+        Some(kinds) => add_kinds(sites, names, number, tile, kinds.as_slice()),
+        None => Ok(()),
+    }
 }
 
 /// The pad sites at which no named pad stands, by the names of their tiles, then of their kinds.
