@@ -1,6 +1,7 @@
 pub mod Walking
 mod AtSites
 mod InTurn
+mod Ending
 mod Settings
 mod SmallWords
 mod OtherPads

@@ -53,6 +53,7 @@ fn pad_cell<'a, G: RoutingGraph>(
     requires there { site.now.number < length (G.graph graph.now).grid.tiles }
     ensures { IfOk result (λ cell. cell ≡ pad_cell_of (G.graph graph.now) (G.device graph.now).profile.rules names.now placed.now site.now) }
 {
+    let kind = site.kind;
     let role = names.role(&placed.name);
     let name = placed.name.copy()?;
     let bits = bits_of_settings(
@@ -60,7 +61,7 @@ fn pad_cell<'a, G: RoutingGraph>(
         graph,
         site.number,
         site.tile,
-        site.kind.settings.as_slice(),
+        kind.settings.as_slice(),
     )?;
     Ok(PadCell {
         name,

@@ -24,8 +24,9 @@ fn takes_out<G: NamedGraph>(graph: &G, image: &Image, site: &PadSite<'_>) -> boo
     requires there { site.now.number < length (G.graph graph.now).grid.tiles }
     ensures { result ≡ option_map_or takes_out_of (take_at_of (G.graph graph.now) (bits image.now) site.now.number site.now.kind.mode) false }
 {
+    let kind = site.kind;
     matches!(
-        take_at(graph, image, site.number, &site.kind.mode),
+        take_at(graph, image, site.number, &kind.mode),
         Some(Take::Out)
     )
 }
@@ -43,10 +44,9 @@ fn unnamed_fault<G: NamedGraph>(
     if !takes_out(graph, image, site) {
         return Ok(());
     }
-    Err(CellError::UnnamedPad(
-        site.tile.name.copy()?,
-        site.kind.name.copy()?,
-    ))
+    let tile = site.tile;
+    let kind = site.kind;
+    Err(CellError::UnnamedPad(tile.name.copy()?, kind.name.copy()?))
 }
 
 /// The first of unnamed pads that drives out of the fabric.

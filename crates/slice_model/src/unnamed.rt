@@ -20,7 +20,9 @@ fn add_unnamed<'a>(
 ) -> Result<(), AllocError>
     ensures { OnOk result (sites.new.items ≡ sites.old.items ++ (if is_named names.now site.entry then [] else (site.entry ∷ []))) }
 {
-    if !names.has_pad_at(&site.tile.name, &site.kind.name) {
+    let tile = site.tile;
+    let kind = site.kind;
+    if !names.has_pad_at(&tile.name, &kind.name) {
         sites.push(site)?;
     }
     Ok(())
