@@ -4,4 +4,4 @@ mod InTurn
 mod Ending
 mod Settings
 mod SmallWords
-mod OtherPads
+pub mod OtherPads

@@ -1,9 +1,9 @@
 -- Pads at which no named pad stands, tile by tile.
 use Rattle.std.proofs.Common.{◌≡◌, ℕ, suc, zero, ◌+◌, ◌<◌, ◌≤◌, Bool, true, false, cond, List, [], ◌∷◌, ◌++◌, map, flat_map, drop, length, get_or, Option, None, Some, option_map, inl, inr, refl, sym, ap, subst, ◌∙◌, arith, add-one, append_assoc}
-use Rattle.std.specs.Prelude.{filter, filter_map, not, slice_get}
+use Rattle.std.specs.Prelude.{filter, filter_map, not, slice_get, if◌then◌else◌}
 use Rattle.std.specs.List.{cons_option, enumerate_from}
 use Rattle.std.specs.Str.{bytes_eq}
-use Rattle.std.proofs.lemmas.List.{append-nil, drop_all}
+use Rattle.std.proofs.lemmas.List.{append-nil, drop_all, drop_more}
 use Rattle.words.specs.Members.{In}
 use Rattle.words.specs.Ordered.{in_order}
 use Rattle.records.specs.Grid.{Tile}
@@ -14,6 +14,7 @@ use Rattle.links.proofs.Members.{of_flat_map}
 use Rattle.cells.specs.Sites.{Site, site_in, is_named, tile_pad_sites, unnamed_pads}
 use Rattle.slice_model.specs.Grid.{StandsInGrid, AllStand}
 use Rattle.slice_model.specs.Unnamed.{unnamed_of, unnamed_in}
+use denote.Ref.{Bor}
 
 filter_both : {X : Type 0} (t : X → Bool) (xs ys : List X) → filter t (xs ++ ys) ≡ filter t xs ++ filter t ys
 filter_both t [] ys = refl
@@ -70,6 +71,35 @@ module _ (profile : Profile) (side : Side) where
 
   pub tile_end : (tiles : List Tile) (n : ℕ) (old all : List (Site PadKind)) → length tiles ≤ n → old ++ unnamed_in profile side n (drop n tiles) ≡ all → old ≡ all
   tile_end tiles n old all l h = sym (append-nil old) ∙ (ap (λ ts. old ++ unnamed_in profile side n ts) (sym (drop_all n tiles l)) ∙ h)
+
+-- the next kind, and those behind it
+next_kind : (side : Side) (number : ℕ) (tile : Tile) (k : PadKind) (ks : List PadKind)
+    → unnamed_of side number tile (k ∷ ks)
+    ≡ (if is_named side (record { number = number; tile = tile; kind = k }) then [] else (record { number = number; tile = tile; kind = k } ∷ [])) ++ unnamed_of side number tile ks
+next_kind side number tile k ks = go (is_named side (record { number = number; tile = tile; kind = k }))
+  where
+    go : (b : Bool) → cond (not b) (record { number = number; tile = tile; kind = k } ∷ unnamed_of side number tile ks) (unnamed_of side number tile ks)
+        ≡ (if b then [] else (record { number = number; tile = tile; kind = k } ∷ [])) ++ unnamed_of side number tile ks
+    go true = refl
+    go false = refl
+
+pub kind_more : (side : Side) (number : ℕ) (tile : Tile) (kinds : List (Bor PadKind)) (i : ℕ) (d : Bor PadKind) (ys more whole : List (Site PadKind)) → i < length kinds
+    → ys ++ unnamed_of side number tile (map (λ k. k.now) (drop i kinds)) ≡ whole
+    → more ≡ ys ++ (if is_named side (record { number = number; tile = tile; kind = (get_or kinds i d).now }) then [] else (record { number = number; tile = tile; kind = (get_or kinds i d).now } ∷ []))
+    → more ++ unnamed_of side number tile (map (λ k. k.now) (drop (i + 1) kinds)) ≡ whole
+kind_more side number tile kinds i d ys more whole below all is =
+    let rest : List (Site PadKind) = unnamed_of side number tile (map (λ (k : Bor PadKind). k.now) (drop (i + 1) kinds)) in
+    let k : PadKind = (get_or kinds i d).now in
+    let made : List (Site PadKind) = (if is_named side (record { number = number; tile = tile; kind = k }) then [] else (record { number = number; tile = tile; kind = k } ∷ [])) in
+    ap (λ zs. zs ++ rest) is
+    ∙ (append_assoc ys made rest
+    ∙ (ap (λ zs. ys ++ zs) (sym (ap (λ (ks : List (Bor PadKind)). unnamed_of side number tile (map (λ k. k.now) ks)) (drop_more kinds i d below) ∙ next_kind side number tile k (map (λ k. k.now) (drop (i + 1) kinds))))
+    ∙ all))
+
+pub kind_all : (side : Side) (number : ℕ) (tile : Tile) (kinds : List (Bor PadKind)) (i : ℕ) (ys whole : List (Site PadKind)) → length kinds ≤ i
+    → ys ++ unnamed_of side number tile (map (λ k. k.now) (drop i kinds)) ≡ whole → ys ≡ whole
+kind_all side number tile kinds i ys whole over all =
+    sym (append-nil ys) ∙ (ap (λ zs. ys ++ zs) (sym (ap (λ (ks : List (Bor PadKind)). unnamed_of side number tile (map (λ k. k.now) ks)) (drop_all i kinds over))) ∙ all)
 
 -- unnamed pads stand in the grid
 of_filter : {X : Type 0} (t : X → Bool) (xs : List X) (x : X) → In (filter t xs) x → In xs x

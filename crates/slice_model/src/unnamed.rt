@@ -29,6 +29,7 @@ fn add_unnamed<'a>(
 }
 
 // Adds the sites of kinds in a tile at which no named pad stands.
+#[tactic(auto, using(crate::proofs::OtherPads::kind_more, crate::proofs::OtherPads::kind_all))]
 fn add_kinds<'a>(
     sites: &mut Vec<PadSite<'a>>,
     names: &SideNames<'a>,
