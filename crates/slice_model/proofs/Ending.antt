@@ -1,5 +1,5 @@
 -- The cells or their first fault, once each part is known.
-use Rattle.std.proofs.Common.{◌≡◌, List, Option, None, Some, Result, Ok, Err, sym, ap, subst, ◌∙◌}
+use Rattle.std.proofs.Common.{◌≡◌, ℕ, ◌≤◌, List, map, drop, length, Option, None, Some, Result, Ok, Err, sym, ap, ap₂, subst, ◌∙◌}
 use Rattle.std.specs.Prelude.{IfSome}
 use Rattle.words.specs.Firsts.{or_else, unless_fault}
 use Rattle.words.specs.OrMemory.{OrMemory}
@@ -13,10 +13,12 @@ use Rattle.cells.specs.Readings.{slices_of, pads_of}
 use Rattle.cells.specs.Faults.{CellFault, site_fault, shape_fault}
 use Rattle.cells.specs.CellsOf.{cells_of}
 use Rattle.cell_readings.specs.First.{first_of}
+use Rattle.cell_readings.proofs.First.{first_none, first_mapped}
 use Rattle.slice_model.specs.Grid.{AllPlaced, HasFewPins, HaveFewPins}
 use Rattle.slice_model.specs.Standing.{standing}
 use Rattle.slice_model.specs.Turns.{faults_at, cells_at}
 use Rattle.slice_model.proofs.AtSites.{slices_stand, pads_stand, slices_have_few}
+use denote.Ref.{Bor}
 use Rattle.slice_model.proofs.InTurn.{whole, stops, stops_later, goes_on, is_found}
 
 -- a fault stops whatever was to be made
@@ -29,6 +31,17 @@ same_stop (Some g) (Some f) u v h = ap Err (let same : g ≡ f = cc in same)
 pub made_good : {X Y E : Type 0} (o : Option E) (u x : X) (v w : Y) → unless_fault o u ≡ Ok x → w ≡ v → unless_fault o v ≡ Ok w
 made_good None u x v w e h = ap Ok (sym h)
 made_good (Some f) u x v w e h = absurd (let no : ⊥ = cc in no)
+
+-- all have passed, and what was found is what was to be found
+pub ends_found : {X Y E : Type 0} (fault : X → Option E) (xs : List X) (i : ℕ) (u v : Y) → length xs ≤ i → first_of fault (drop i xs) ≡ first_of fault xs → v ≡ u
+    → unless_fault (first_of fault xs) u ≡ Ok v
+ends_found fault xs i u v l h e = ap (λ o. unless_fault o u) (sym h ∙ first_none fault xs i l) ∙ ap Ok (sym e)
+
+-- lent cells in order are the cells in order
+pub ordered_is : {K : Type 0} (site_of : Placed → Option (Site K)) (qs : List (Bor Placed)) (ps : List Placed) → map (λ q. q.now) qs ≡ ps
+    → unless_fault (first_of (λ q. site_fault q.now.name (site_of q.now)) qs) (standing site_of (map (λ q. q.now) qs)) ≡ unless_fault (first_of (λ p. site_fault p.name (site_of p)) ps) (standing site_of ps)
+ordered_is site_of qs ps e =
+    ap₂ unless_fault (sym (first_mapped (λ (p : Placed). site_fault p.name (site_of p)) (λ (q : Bor Placed). q.now) qs) ∙ ap (first_of (λ (p : Placed). site_fault p.name (site_of p))) e) (ap (standing site_of) e)
 
 module _ (g : Graph) (profile k : Profile) (image : Bits) (side n : Side) (same : k ≡ profile) (named : n ≡ side) where
   -- the faults of the sites of slices and of pads, and of shapes

@@ -2,6 +2,6 @@ pub mod Walking
 mod AtSites
 mod InTurn
 mod Ending
-mod Settings
+pub mod Settings
 mod SmallWords
 pub mod OtherPads

@@ -10,6 +10,11 @@ use Rattle.fabric.specs.Settings.{Settings, word_named, word_bits}
 use Rattle.fabric.specs.Values.{word_at}
 use Rattle.cells.specs.Sites as sites
 use Rattle.named_graph.specs.Standing.{settings_at}
+use Rattle.cells.specs.Resolved.{word_of}
+use Rattle.circuit.specs.Worlds.{address}
+use Rattle.patterns.specs.Fits.{fits}
+use Rattle.std.proofs.lemmas.List.{length-map}
+use Rattle.slice_model.specs.Grid.{HasSmallWord, table_word}
 
 -- both words for the settings of a tile mean the same
 pub same_settings : {K : Type 0} (g : Graph) (s : sites.Site K) → settings_at g s.number ≡ sites.settings_at g s
@@ -29,3 +34,22 @@ word_is g image t name tile e =
         ≡ option_map (word_bits image (origin_of tile)) (word_named (option_map_or (λ settings. settings) o (record { words = []; enums = [] })) name)
     go None = refl
     go (Some s) = refl
+
+word_there : (g : Graph) (image : Bits) (t : ℕ) (name : List ℕ) (tile : Tile) (w : WordSetting) → slice_get g.grid.tiles t ≡ Some tile → Some w ≡ word_named (settings_at g t) name
+    → word_at g image t name ≡ Some (word_bits image (origin_of tile) w)
+word_there g image t name tile w at e = word_is g image t name tile at ∙ ap (option_map (word_bits image (origin_of tile))) (sym e)
+
+-- the patterns of a word that is small
+pub small_found : (g : Graph) (image : Bits) (t : ℕ) (name : List ℕ) (tile : Tile) (w : WordSetting) → slice_get g.grid.tiles t ≡ Some tile → Some w ≡ word_named (settings_at g t) name
+    → HasSmallWord g image t name → length w.bits ≤ 16
+small_found g image t name tile w at e small =
+    subst (λ n. n ≤ 16) (length-map w.bits (fits image (origin_of tile))) (subst (λ o. length (unwrap_or o []) ≤ 16) (word_there g image t name tile w at e) small.few)
+
+-- the word of a table, where it is there and where it isn't
+pub word_found : (g : Graph) (image : Bits) (t : ℕ) (name : List ℕ) (tile : Tile) (w : WordSetting) → slice_get g.grid.tiles t ≡ Some tile → Some w ≡ word_named (settings_at g t) name
+    → table_word g image t name ≡ address (word_bits image (origin_of tile) w)
+word_found g image t name tile w at e = ap (λ o. word_of (unwrap_or o [])) (word_there g image t name tile w at e)
+
+pub word_missing : (g : Graph) (image : Bits) (t : ℕ) (name : List ℕ) (tile : Tile) → slice_get g.grid.tiles t ≡ Some tile → None ≡ word_named (settings_at g t) name
+    → table_word g image t name ≡ 0
+word_missing g image t name tile at e = ap (λ o. word_of (unwrap_or o [])) (word_is g image t name tile at ∙ ap (option_map (word_bits image (origin_of tile))) (sym e))

@@ -50,3 +50,7 @@ kept_all f xs i ys whole over all =
 pub filter_mapped : {X Y Z : Type 0} (f : Y → Option Z) (h : X → Y) (xs : List X) → filter_map f (map h xs) ≡ filter_map (λ x. f (h x)) xs
 filter_mapped f h [] = refl
 filter_mapped f h (x ∷ xs) = ap (cons_option (f (h x))) (filter_mapped f h xs)
+
+-- what is added behind what was added
+pub both_added : {Y : Type 0} (old one more two : List Y) (ws es : List Y) → one ≡ old ++ ws → more ≡ one ++ es → two ≡ more → two ≡ old ++ (ws ++ es)
+both_added old one more two ws es a b e = e ∙ (b ∙ (ap (λ ys. ys ++ es) a ∙ append_assoc old ws es))

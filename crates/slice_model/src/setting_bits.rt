@@ -102,6 +102,7 @@ fn add_enum(
 }
 
 // Adds the device bits of the word and the enum of a name in a tile.
+#[tactic(auto, using(crate::proofs::Walking::both_added))]
 fn add_setting<G: NamedGraph>(
     bits: &mut Vec<DeviceBit>,
     graph: &G,

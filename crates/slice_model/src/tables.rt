@@ -2,6 +2,7 @@
 
 ghost use Rattle.std.specs.Prelude.{◌≡◌, ◌<◌, IfOk, length, map};
 ghost use Rattle.cells.specs.Resolved.{table_cell as table_cell_of};
+ghost use Rattle.cells.specs.Takes.{wire_number as wire_number_of};
 ghost use Rattle.cram_image.specs.Image.{bits};
 ghost use Rattle.slice_model.specs.Grid.{HasSmallWord, HaveSmallWords, StandsInGrid, table_word};
 
@@ -11,11 +12,12 @@ use cell_profile::TableKind;
 use cell_sites::SliceSite;
 use cram_image::Image;
 use routing_graph::RoutingGraph;
-use rr_ids::{List, Name};
+use rr_ids::{List, Name, WireId};
 use setting_values::word_number;
 use std::alloc::{AllocError, Global};
 
 // The word of a table at a site; 0 where there is none.
+#[tactic(auto, using(crate::proofs::Settings::small_found, crate::proofs::Settings::word_found, crate::proofs::Settings::word_missing))]
 fn word_at<G: RoutingGraph>(graph: &G, image: &Image, site: &SliceSite<'_>, name: &Name) -> u16
     requires at { StandsInGrid (G.graph graph.now) site.now }
     requires there { site.now.number < length (G.graph graph.now).grid.tiles }
@@ -26,6 +28,20 @@ fn word_at<G: RoutingGraph>(graph: &G, image: &Image, site: &SliceSite<'_>, name
         Some(word) => word_number(image, site.tile, word),
         None => 0,
     }
+}
+
+// The wires of pins at a site.
+fn pins_at<G: RoutingGraph>(
+    alloc: Global,
+    graph: &G,
+    site: &SliceSite<'_>,
+    names: &[Name],
+) -> Result<List<WireId>, AllocError>
+    requires at { StandsInGrid (G.graph graph.now) site.now }
+    requires there { site.now.number < length (G.graph graph.now).grid.tiles }
+    ensures { IfOk result (λ wires. wires ≡ map (wire_number_of (G.graph graph.now) (G.device graph.now).profile.rules site.now.tile) names.now) }
+{
+    wire_numbers(alloc, graph, site.number, names)
 }
 
 // A table of a kind at a site.
@@ -43,7 +59,7 @@ fn table_cell<G: RoutingGraph>(
 {
     Ok(TableCell {
         word: word_at(graph, image, site, &table.word),
-        pins: wire_numbers(alloc, graph, site.number, table.pins.as_slice())?,
+        pins: pins_at(alloc, graph, site, table.pins.as_slice())?,
         out: wire_number(graph, site.number, &table.out),
     })
 }

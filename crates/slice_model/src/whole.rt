@@ -102,8 +102,7 @@ fn cells_at_sites<'a, G: RoutingGraph>(
         (cells_at (G.graph graph.now) profile.now (bits image.now) names.now slices.now pads.now)) }
 {
     first_fault(alloc, graph, image, profile, names, slices, pads)?;
-    let cells = made(alloc, graph, image, names, slices, pads)?;
-    Ok(cells)
+    Ok(made(alloc, graph, image, names, slices, pads)?)
 }
 
 // The cells of a side file, where its names are known.
