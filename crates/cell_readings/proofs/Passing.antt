@@ -1,5 +1,5 @@
 -- Settings that are modelled, and those that aren't.
-use Rattle.std.proofs.Common.{◌≡◌, ℕ, ◌*◌, ◌%◌, ◌^◌, ◌<◌, ◌≤◌, ◌⊎◌, inl, inr, Bool, true, false, List, [], ◌∷◌, length, map, Option, None, Some, Result, Ok, Err, option_map, refl, sym, ap, subst, ◌∙◌, arith}
+use Rattle.std.proofs.Common.{◌≡◌, ℕ, ◌*◌, ◌%◌, ◌^◌, ◌<◌, ◌≤◌, true, false, List, [], length, Option, None, Some, Result, Ok, Err, option_map, refl, sym, ap, subst, ◌∙◌, arith}
 use Rattle.std.specs.Prelude.{IfSome, codes, unwrap_or, slice_get, option_and_then, ◌==◌, if◌then◌else◌}
 use Rattle.std.specs.Option.{option_map_or}
 use Rattle.std.proofs.lemmas.Bool.{false_from_ne_true}
@@ -16,7 +16,7 @@ use Rattle.fabric.specs.Settings.{Settings, word_named, word_bits}
 use Rattle.fabric.specs.Values.{word_at}
 use Rattle.named_graph.specs.Standing.{settings_at}
 use Rattle.cells.specs.Readings.{Reading, digits_of, table_reading}
-use Rattle.cells.specs.Faults.{CellFault, Unmodelled, value_fault}
+use Rattle.cells.specs.Faults.{Unmodelled, value_fault}
 
 -- a number of bits is that of the assignments of bits to few pins, or is less
 pub few_pins : (bits pins : ℕ) → pins < 64 → (bits == 1 * 2 ^ pins % 2 ^ 64) ≡ (bits == 2 ^ pins)

@@ -37,10 +37,7 @@ fn by_name<'a, T: Named>(alloc: Global, items: &'a [T]) -> Result<ByName<'a, T>,
 }
 
 // The records of a map, in its order.
-fn records_of<'a, T: Named>(
-    alloc: Global,
-    by_name: ByName<'a, T>,
-) -> Result<Vec<&'a T>, AllocError>
+fn records_of<'a, T: Named>(alloc: Global, by_name: ByName<'a, T>) -> Result<Vec<&'a T>, AllocError>
     ensures { IfOk result (λ ordered. map (λ item. item.now) ordered.items ≡ map (λ e. e.1.now) by_name.entry.entries) }
 {
     let mut ordered = Vec::with_capacity(alloc, by_name.len())?;

@@ -30,11 +30,7 @@ fn with_last<'a, T: Paired>(
 }
 
 // Adds a record at the end of the row of its first name.
-fn add<'a, T: Paired>(
-    alloc: Global,
-    rows: &mut Rows<'a, T>,
-    item: &'a T,
-) -> Result<(), AllocError>
+fn add<'a, T: Paired>(alloc: Global, rows: &mut Rows<'a, T>, item: &'a T) -> Result<(), AllocError>
     ensures { OnOk result ((items : Seq T) → HoldsRows T.first items rows.old → HoldsRows T.first (items ++ item.now ∷ []) rows.new) }
 {
     let key = item.first().bytes();
@@ -44,7 +40,10 @@ fn add<'a, T: Paired>(
 }
 
 /// The records of a list in rows by their first names.
-pub(crate) fn rows_of<'a, T: Paired>(alloc: Global, items: &[&'a T]) -> Result<Rows<'a, T>, AllocError>
+pub(crate) fn rows_of<'a, T: Paired>(
+    alloc: Global,
+    items: &[&'a T],
+) -> Result<Rows<'a, T>, AllocError>
     ensures { IfOk result (HoldsRows T.first (map (λ item. item.now) items.now)) }
 {
     let mut rows = Rows::new(alloc);
@@ -55,7 +54,10 @@ pub(crate) fn rows_of<'a, T: Paired>(alloc: Global, items: &[&'a T]) -> Result<R
 }
 
 /// The records of a first name; `None` where there is none.
-pub(crate) fn row<'r, 'a, T: Paired>(rows: &'r Rows<'a, T>, first: &'a Name) -> Option<&'r List<&'a T>>
+pub(crate) fn row<'r, 'a, T: Paired>(
+    rows: &'r Rows<'a, T>,
+    first: &'a Name,
+) -> Option<&'r List<&'a T>>
     ensures { (items : Seq T) → HoldsRows T.first items rows.now → row_items (option_copied result) ≡ filter (λ x. bytes_eq (T.first x) first.now) items }
 {
     rows.get(first.bytes())

@@ -119,9 +119,9 @@ whole g profile image side =
     let pads : List (Placed × Site PadKind) = standing (pad_site g profile) (pads_of side) in
     let driving : Option CellFault = first_of (unnamed_fault g image) (unnamed_pads g profile side) in
     let values : or_else (first_of value_fault (readings g profile image side)) driving ≡ faults_at g profile image side slices pads =
-        ap (λ o. or_else o driving) (values_read g profile image side)
-        ∙ (three (slices_fault g image slices) (or_else (pads_fault g image side pads) (modes_fault g image (unnamed_pads g profile side))) driving
-        ∙ ap (or_else (slices_fault g image slices)) (three (pads_fault g image side pads) (modes_fault g image (unnamed_pads g profile side)) driving)) in
+    ap (λ o. or_else o driving) (values_read g profile image side)
+    ∙ (three (slices_fault g image slices) (or_else (pads_fault g image side pads) (modes_fault g image (unnamed_pads g profile side))) driving
+    ∙ ap (or_else (slices_fault g image slices)) (three (pads_fault g image side pads) (modes_fault g image (unnamed_pads g profile side)) driving)) in
     same_unless (cell_fault g profile image side) (record { slices = slice_cells g profile image side; pads = pad_cells g profile side })
     ∙ ap₂ unless_fault
     (faults_in_turn g profile image side

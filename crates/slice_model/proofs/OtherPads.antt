@@ -148,10 +148,10 @@ in_tile {K} number tile (k ∷ ks) s i = go tile.place i (in_tile number tile ks
 pub unnamed_stand : (g : Graph) (profile : Profile) (side : Side) → AllStand g (unnamed_pads g profile side)
 unnamed_stand g profile side = record {
   each = λ s i. (
-    let q = of_flat_map (λ (t : ℕ × Tile). tile_pad_sites profile t.0 t.1) (enumerate_from 0 g.grid.tiles) s
-        (of_filter (λ s. not (is_named side s)) (flat_map (λ t. tile_pad_sites profile t.0 t.1) (enumerate_from 0 g.grid.tiles)) s i) in
-    let n = of_enumerated 0 g.grid.tiles q.0 q.1.0 in
-    let k = in_tile q.0.0 q.0.1 (in_order (λ (k : PadKind). k.name) (filter (λ k. bytes_eq k.tile q.0.1.kind) profile.pads)) s q.1.1 in
-    let place : n.0 ≡ s.number = (let z : n.0 ≡ 0 + n.0 = omega arith in z ∙ (n.1.0 ∙ k.0)) in
-    record { at = subst (λ m. slice_get g.grid.tiles m ≡ Some s.tile) place (n.1.1 ∙ ap Some k.1) });
+      let q = of_flat_map (λ (t : ℕ × Tile). tile_pad_sites profile t.0 t.1) (enumerate_from 0 g.grid.tiles) s
+      (of_filter (λ s. not (is_named side s)) (flat_map (λ t. tile_pad_sites profile t.0 t.1) (enumerate_from 0 g.grid.tiles)) s i) in
+      let n = of_enumerated 0 g.grid.tiles q.0 q.1.0 in
+      let k = in_tile q.0.0 q.0.1 (in_order (λ (k : PadKind). k.name) (filter (λ k. bytes_eq k.tile q.0.1.kind) profile.pads)) s q.1.1 in
+      let place : n.0 ≡ s.number = (let z : n.0 ≡ 0 + n.0 = omega arith in z ∙ (n.1.0 ∙ k.0)) in
+      record { at = subst (λ m. slice_get g.grid.tiles m ≡ Some s.tile) place (n.1.1 ∙ ap Some k.1) });
 }

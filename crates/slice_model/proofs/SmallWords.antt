@@ -45,10 +45,10 @@ table_small : (g : Graph) (image : Bits) (p : Placed) (s : Site SliceKind) (t : 
     → HasSmallWord g image s.number t.word
 table_small g image p s t h i few =
     let there : In (slice_readings g image p s) (table_reading g image p.name s.number t) =
-        in_left (map (require_reading g image p.name s.number) s.kind.require ++ map (table_reading g image p.name s.number) s.kind.tables) (flat_map (register_readings g image p.name s.number) s.kind.registers)
-        (table_reading g image p.name s.number t)
-        (in_right (map (require_reading g image p.name s.number) s.kind.require) (map (table_reading g image p.name s.number) s.kind.tables) (table_reading g image p.name s.number t)
-        (in_map (table_reading g image p.name s.number) s.kind.tables t i)) in
+    in_left (map (require_reading g image p.name s.number) s.kind.require ++ map (table_reading g image p.name s.number) s.kind.tables) (flat_map (register_readings g image p.name s.number) s.kind.registers)
+    (table_reading g image p.name s.number t)
+    (in_right (map (require_reading g image p.name s.number) s.kind.require) (map (table_reading g image p.name s.number) s.kind.tables) (table_reading g image p.name s.number t)
+    (in_map (table_reading g image p.name s.number) s.kind.tables t i)) in
     record {
       few = small_word (word_at g image s.number t.word) (length t.pins)
           (modelled (table_reading g image p.name s.number t) (none_of value_fault (slice_readings g image p s) h (table_reading g image p.name s.number t) there)) few;

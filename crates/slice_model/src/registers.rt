@@ -42,12 +42,7 @@ fn input_at<G: RoutingGraph>(
 }
 
 // Whether a choice takes a constant 1.
-fn is_one<G: RoutingGraph>(
-    graph: &G,
-    image: &Image,
-    site: &SliceSite<'_>,
-    choice: &Choice,
-) -> bool
+fn is_one<G: RoutingGraph>(graph: &G, image: &Image, site: &SliceSite<'_>, choice: &Choice) -> bool
     requires stands { StandsInTiles (G.graph graph.now) }
     requires there { site.now.number < length (G.graph graph.now).grid.tiles }
     ensures { result ≡ option_map_or is_one_of (take_at_of (G.graph graph.now) (bits image.now) site.now.number choice.now) false }

@@ -50,7 +50,15 @@ fn pad_value<'a, G: NamedGraph>(
     let site = &pad.site;
     let kind = site.kind;
     let role = names.role(&placed.name);
-    pad_fault(alloc, graph, image, &placed.name, role, site.number, &kind.mode)
+    pad_fault(
+        alloc,
+        graph,
+        image,
+        &placed.name,
+        role,
+        site.number,
+        &kind.mode,
+    )
 }
 
 // The mode of an unnamed pad.

@@ -125,7 +125,15 @@ fn cells_named<'a, G: RoutingGraph>(
     let slices = placed_slices(alloc, graph, kinds, side)?;
     let pads = placed_pads(alloc, graph, kinds, side)?;
     first_unlike(graph, kinds, names, side)?;
-    cells_at_sites(alloc, graph, image, profile, names, slices.as_slice(), pads.as_slice())
+    cells_at_sites(
+        alloc,
+        graph,
+        image,
+        profile,
+        names,
+        slices.as_slice(),
+        pads.as_slice(),
+    )
 }
 
 /// The cells of an image: the tables, registers and pads at the sites that a side file names, each setting and choice resolved by

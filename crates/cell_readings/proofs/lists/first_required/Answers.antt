@@ -3,7 +3,6 @@ use Rattle.cells.specs.Faults.{value_fault}
 use Rattle.cells.specs.Readings.{require_reading}
 use Rattle.cram_image.specs.Image.{bits}
 use Rattle.cell_readings.specs.Errors.{fault_of}
-use Rattle.cell_readings.specs.First.{first_of}
 use Rattle.cell_readings.proofs.First.{first_passed, first_found, first_end}
 use Rattle.cell_readings.proofs.lists.first_required.Goals as goal
 
