@@ -2,7 +2,7 @@
 use Rattle.std.proofs.Common.{◌≡◌, ℕ, suc, zero, ◌+◌, ◌<◌, ◌≤◌, Bool, true, false, cond, List, [], ◌∷◌, ◌++◌, map, flat_map, drop, length, get_or, Option, None, Some, option_map, inl, inr, refl, sym, ap, subst, ◌∙◌, arith, add-one, append_assoc}
 use Rattle.std.specs.Prelude.{filter, filter_map, not, slice_get, if◌then◌else◌}
 use Rattle.std.specs.List.{cons_option, enumerate_from}
-use Rattle.std.specs.Option.{is_none}
+use Rattle.std.specs.Option.{is_some}
 use Rattle.std.specs.Str.{bytes_eq}
 use Rattle.std.proofs.lemmas.List.{append-nil, drop_all, drop_more}
 use Rattle.words.specs.Members.{In}
@@ -48,21 +48,21 @@ pub without_place : (profile : Profile) (side : Side) (number : ℕ) (tile : Til
 without_place profile side number tile e =
     ap (filter (λ s. not (is_named side s))) (none_in number tile (in_order (λ k. k.name) (filter (λ k. bytes_eq k.tile tile.kind) profile.pads)) e)
 
-pub tile_none : (profile : Profile) (side : Side) (number : ℕ) (tile : Tile) (ys : List (Site PadKind)) → is_none tile.place ≡ true
+pub tile_none : (profile : Profile) (side : Side) (number : ℕ) (tile : Tile) (ys : List (Site PadKind)) → is_some tile.place ≡ false
     → ys ≡ ys ++ filter (λ s. not (is_named side s)) (tile_pad_sites profile number tile)
 tile_none profile side number tile ys h =
     sym (append-nil ys) ∙ ap (λ zs. ys ++ zs) (sym (without_place profile side number tile (go tile.place h)))
   where
-    go : (o : Option (ℕ × ℕ)) → is_none o ≡ true → o ≡ None
+    go : (o : Option (ℕ × ℕ)) → is_some o ≡ false → o ≡ None
     go None e = refl
     go (Some p) e = absurd (let no : ⊥ = cc in no)
 
-pub tile_some : (profile : Profile) (side : Side) (number : ℕ) (tile : Tile) (kinds : List PadKind) → is_none tile.place ≡ false
+pub tile_some : (profile : Profile) (side : Side) (number : ℕ) (tile : Tile) (kinds : List PadKind) → is_some tile.place ≡ true
     → kinds ≡ in_order (λ k. k.name) (filter (λ k. bytes_eq k.tile tile.kind) profile.pads)
     → unnamed_of side number tile kinds ≡ filter (λ s. not (is_named side s)) (tile_pad_sites profile number tile)
 tile_some profile side number tile kinds h same = (let p = go tile.place h in with_place profile side number tile kinds p.0 p.1 same)
   where
-    go : (o : Option (ℕ × ℕ)) → is_none o ≡ false → (p : ℕ × ℕ) × (o ≡ Some p)
+    go : (o : Option (ℕ × ℕ)) → is_some o ≡ true → (p : ℕ × ℕ) × (o ≡ Some p)
     go None e = absurd (let no : ⊥ = cc in no)
     go (Some p) e = (p, refl)
 

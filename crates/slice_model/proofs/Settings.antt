@@ -1,5 +1,5 @@
 -- The settings of a tile, and the bits of its words.
-use Rattle.std.proofs.Common.{◌≡◌, ℕ, ◌≤◌, Bool, List, [], length, Option, None, Some, option_map, refl, sym, ap, subst, ◌∙◌}
+use Rattle.std.proofs.Common.{◌≡◌, ℕ, ◌≤◌, Bool, List, [], length, Option, None, Some, option_map, refl, sym, ap, ap₂, subst, ◌∙◌}
 use Rattle.std.specs.Prelude.{slice_get, option_and_then, unwrap_or}
 use Rattle.std.specs.Option.{option_map_or}
 use Rattle.patterns.specs.Bits.{Bits}
@@ -11,6 +11,7 @@ use Rattle.fabric.specs.Values.{word_at}
 use Rattle.cells.specs.Sites as sites
 use Rattle.named_graph.specs.Standing.{settings_at}
 use Rattle.cells.specs.Resolved.{word_of}
+use Rattle.circuit.specs.Cells.{TableCell}
 use Rattle.circuit.specs.Worlds.{address}
 use Rattle.patterns.specs.Fits.{fits}
 use Rattle.std.proofs.lemmas.List.{length-map}
@@ -53,3 +54,10 @@ word_found g image t name tile w at e = ap (λ o. word_of (unwrap_or o [])) (wor
 pub word_missing : (g : Graph) (image : Bits) (t : ℕ) (name : List ℕ) (tile : Tile) → slice_get g.grid.tiles t ≡ Some tile → None ≡ word_named (settings_at g t) name
     → table_word g image t name ≡ 0
 word_missing g image t name tile at e = ap (λ o. word_of (unwrap_or o [])) (word_is g image t name tile at ∙ ap (option_map (word_bits image (origin_of tile))) (sym e))
+
+abbrev pub table_of : ℕ → List ℕ → ℕ → TableCell
+table_of word pins out = record { word = word; pins = pins; out = out }
+
+-- a table of its parts
+pub table_made : (a b : ℕ) (p q : List ℕ) (o r : ℕ) → a ≡ b → p ≡ q → o ≡ r → table_of a p o ≡ table_of b q r
+table_made a b p q o r e f h = ap₂ (λ w ps. table_of w ps o) e f ∙ ap (table_of b q) h
