@@ -1,2 +1,3 @@
 pub mod Errors
+pub mod First
 pub mod Roles

@@ -1,7 +1,8 @@
 //! Settings whose values aren't modelled.
 
-ghost use Rattle.std.specs.Prelude.{◌≡◌, ◌<◌, [], Some, IfOk, codes, false, length, option_map, unwrap_or};
+ghost use Rattle.std.specs.Prelude.{◌≡◌, ◌<◌, ◌==◌, ◌^◌, [], Some, IfOk, codes, false, length, option_map, unwrap_or};
 ghost use Rattle.std.specs.Option.{option_copied, option_map_or};
+ghost use Rattle.std.specs.Str.{bytes_eq};
 ghost use Rattle.words.specs.Firsts.{unless_fault};
 ghost use Rattle.words.specs.OrMemory.{OrMemory};
 ghost use Rattle.cell_parts.specs.CellViews.{role_of as role_view};
@@ -9,7 +10,7 @@ ghost use Rattle.cell_profile.specs.Takes.{take_of};
 ghost use Rattle.cell_readings.specs.Errors.{fault_of};
 ghost use Rattle.cell_readings.specs.Roles.{role_reading};
 ghost use Rattle.cells.specs.Faults.{Unmodelled, value_fault};
-ghost use Rattle.cells.specs.Readings.{choice_reading};
+ghost use Rattle.cells.specs.Readings.{choice_reading, require_reading, table_reading};
 ghost use Rattle.cells.specs.Takes.{suits as suits_of};
 ghost use Rattle.cram_image.specs.Image.{bits};
 ghost use Rattle.named_graph.specs.Standing.{StandsInTiles};
@@ -17,10 +18,11 @@ ghost use Rattle.named_graph.specs.Standing.{StandsInTiles};
 use crate::choices::{choice_value, take_at};
 use crate::errors::CellError;
 use cell_parts::Role;
-use cell_profile::{Choice, Take};
+use cell_profile::{Choice, Require, TableKind, Take};
 use cram_image::Image;
 use named_graph::NamedGraph;
 use rr_ids::{Name, Text, TileId};
+use setting_values::{value_at, word_digits};
 use std::alloc::{AllocError, Global};
 
 // The text of a value, or `?` where there is none.
@@ -44,6 +46,75 @@ fn unmodelled(
 {
     let text = value_text(alloc, value)?;
     Ok(CellError::Unmodelled(cell.copy()?, Text::new(alloc, setting)?, text))
+}
+
+// Whether a value is there and is the one that is required.
+fn is_value(value: Option<&Name>, required: &Name) -> bool
+    ensures { result ≡ option_map_or (bytes_eq required.now) (option_copied value.entry) false }
+{
+    match value {
+        Some(name) => required.bytes() == name.bytes(),
+        None => false,
+    }
+}
+
+/// A required enum hasn't the value that is required.
+#[tactic(auto, using(crate::proofs::Passing::passes, crate::proofs::Passing::fails, crate::proofs::Passing::is_named))]
+pub(crate) fn require_fault<G: NamedGraph>(
+    alloc: Global,
+    graph: &G,
+    image: &Image,
+    cell: &Name,
+    t: TileId,
+    require: &Require,
+) -> Result<(), CellError>
+    requires stands { StandsInTiles (G.graph graph.now) }
+    requires there { t < length (G.graph graph.now).grid.tiles }
+    ensures { OrMemory (λ done. done) fault_of result (unless_fault (value_fault (require_reading (G.graph graph.now) (bits image.now) cell.now t require.now)) tt) }
+{
+    let value = value_at(graph, image, t, &require.setting);
+    if is_value(value, &require.value) {
+        return Ok(());
+    }
+    Err(unmodelled(alloc, cell, require.setting.bytes(), value)?)
+}
+
+// Whether there are as many bits as assignments of bits to pins.
+fn has_each_assignment(bits: usize, pins: usize) -> bool
+    ensures { result ≡ (bits == 2 ^ pins) }
+{
+    if pins >= 64 {
+        return false;
+    }
+    bits == 1 << pins
+}
+
+/// The word of a table isn't there, or hasn't a bit for each assignment of bits to its pins.
+#[tactic(auto, using(crate::proofs::Passing::passes, crate::proofs::Passing::fails, crate::proofs::Passing::is_named, crate::proofs::Passing::table_is))]
+pub(crate) fn table_fault<G: NamedGraph>(
+    alloc: Global,
+    graph: &G,
+    image: &Image,
+    cell: &Name,
+    t: TileId,
+    table: &TableKind,
+) -> Result<(), CellError>
+    requires stands { StandsInTiles (G.graph graph.now) }
+    requires there { t < length (G.graph graph.now).grid.tiles }
+    ensures { OrMemory (λ done. done) fault_of result (unless_fault (value_fault (table_reading (G.graph graph.now) (bits image.now) cell.now t table.now)) tt) }
+{
+    let Some(word) = graph.word_named(t, &table.word) else {
+        return Err(unmodelled(alloc, cell, table.word.bytes(), None)?);
+    };
+    if has_each_assignment(word.bits.len(), table.pins.len()) {
+        return Ok(());
+    }
+    let digits = word_digits(alloc, image, graph.tile(t), word)?;
+    Err(CellError::Unmodelled(
+        cell.copy()?,
+        Text::new(alloc, table.word.bytes())?,
+        Text::from_vec(digits),
+    ))
 }
 
 // The bytes of the setting of a choice; none where it has none.

@@ -1,0 +1,5 @@
+mod Finding
+mod Putting
+mod Pairing
+mod Adding
+mod Filtering

@@ -1,0 +1,5 @@
+pub mod Names
+pub mod Ordered
+pub mod Pairs
+pub mod Sides
+pub mod Rows

@@ -1,0 +1,7 @@
+pub mod Walking
+mod AtSites
+mod InTurn
+mod Ending
+pub mod Settings
+mod SmallWords
+pub mod OtherPads
