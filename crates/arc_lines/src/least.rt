@@ -9,8 +9,8 @@ use routing_graph::RoutingGraph;
 use rr_ids::{MuxId, Name};
 use std::cmp::Ordering;
 
-// The name of the tile of a mux.
-fn tile_name<G: RoutingGraph>(graph: &G, m: MuxId) -> &Name
+/// The name of the tile of a mux.
+pub fn tile_name<G: RoutingGraph>(graph: &G, m: MuxId) -> &Name
     requires { m < length (G.graph graph.now).muxes }
     ensures { result.now ≡ (name_at (G.graph graph.now) m).tile }
 {
@@ -19,8 +19,8 @@ fn tile_name<G: RoutingGraph>(graph: &G, m: MuxId) -> &Name
     &tile.name
 }
 
-// What the database calls the sink of a mux.
-fn sink_name<G: RoutingGraph>(graph: &G, m: MuxId) -> &Name
+/// What the database calls the sink of a mux.
+pub fn sink_name<G: RoutingGraph>(graph: &G, m: MuxId) -> &Name
     requires { m < length (G.graph graph.now).muxes }
     ensures { result.now ≡ (name_at (G.graph graph.now) m).sink }
 {

@@ -8,6 +8,7 @@ mod marks;
 mod named;
 
 pub use differ::arcs_differ;
+pub use least::{sink_name, tile_name};
 pub use lines::line_arcs;
 pub use marks::marks_of;
 pub use named::ArcNames;

@@ -8,6 +8,7 @@ use Rattle.links.proofs.Walks.{reaches_by}
 use Rattle.fabric.specs.Graph.{Graph}
 use Rattle.fabric.specs.Links.{routing_of}
 use Rattle.cram_image.specs.Image.{bits}
+use Rattle.wire_feeds.specs.Rows.{AreFeeds}
 use Rattle.live_routing.specs.Live.{IsLive, LiveRouting, live_routing}
 
 -- what drives, feeds and lies below in one routing does so in another
@@ -52,6 +53,13 @@ module _ (g : Graph) (image : List DeviceBit) (kept : Routing) (is : IsLive g im
   pub feed_is : (o : Option ℕ) (w : ℕ) → MatchOption o (Fed kept w → ⊥) (λ c. Feeds kept c w) → MatchOption o (Fed (live_routing live) w → ⊥) (λ c. Feeds (live_routing live) c w)
   feed_is None w h = subst (λ l. Fed (live_routing l) w → ⊥) view (λ f. h (fed_goes (routing_of g (bits image)) kept (to_kept g image kept is) w f))
   feed_is (Some c) w h = subst (λ l. Feeds (live_routing l) c w) view (feeds_go kept (routing_of g (bits image)) (to_image g image kept is) c w h)
+
+  pub feeds_are : (feeds : List (Option ℕ)) → AreFeeds kept feeds → AreFeeds (live_routing live) feeds
+  feeds_are feeds h = subst (λ l. AreFeeds (live_routing l) feeds) view (record {
+    fed = λ w c e. feeds_go kept (routing_of g (bits image)) (to_image g image kept is) c w (h.fed w c e);
+    unfed = λ w e f. h.unfed w e (fed_goes (routing_of g (bits image)) kept (to_kept g image kept is) w f);
+    own = λ c i. h.own c ((to_kept g image kept is).outputs c i);
+  })
 
   pub below_are : {V E : Type 0} (items : V → List ℕ) (r : Result V E) (w : ℕ) → IfOk r (λ v. (x : ℕ) → In (items v) x ↔ Below kept w x)
       → IfOk r (λ v. (x : ℕ) → In (items v) x ↔ Below (live_routing live) w x)

@@ -9,6 +9,7 @@ ghost use Rattle.fabric.specs.Agree.{ArcsAgree};
 ghost use Rattle.fabric.specs.InOrder.{IsRising};
 ghost use Rattle.fabric.specs.Links.{routing_of};
 ghost use Rattle.cram_image.specs.Image.{bits};
+ghost use Rattle.wire_feeds.specs.Rows.{AreFeeds};
 ghost use Rattle.live_routing.specs.Live.{live_routing};
 ghost use Rattle.live_routing.specs.Refused.{Refuses};
 
@@ -128,6 +129,14 @@ impl<'a, G: RoutingGraph> Live<'a, G> {
         ensures clean { IsClean (live_routing self.now) }
     {
         self.links.feed(w)
+    }
+
+    /// For each wire the cell output that feeds it; it is the only one, for the routing is clean.
+    pub fn feeds(&self) -> &[Option<WireId>]
+        ensures feeds { AreFeeds (live_routing self.now) result.now }
+        ensures clean { IsClean (live_routing self.now) }
+    {
+        self.links.feeds()
     }
 
     /// A wire and all wires that are reached from it along links, each once, in order of distance. It costs what it comes to.

@@ -7,6 +7,7 @@ ghost use Rattle.words.specs.Twice.{HasNoneTwice};
 ghost use Rattle.links.specs.Links.{Below, Counting, Drives, Fed, Feeds, IsClean};
 ghost use Rattle.fabric.specs.InOrder.{InOrderOnce, IsRising};
 ghost use Rattle.link_order.specs.Order.{AreWithin, link_cmp};
+ghost use Rattle.wire_feeds.specs.Rows.{AreFeeds};
 ghost use Rattle.wire_links.specs.Refused.{Refuses, as_routing};
 
 use crate::LinksError;
@@ -99,6 +100,14 @@ impl WireLinks {
         ensures clean { IsClean self.now }
     {
         feed_at(&self.feeds, w)
+    }
+
+    /// For each wire the cell output that feeds it.
+    pub fn feeds(&self) -> &[Option<WireId>]
+        ensures feeds { AreFeeds self.now result.now }
+        ensures clean { IsClean self.now }
+    {
+        &self.feeds
     }
 
     /// A wire and all wires that are reached from it along links, each once, in order of distance. It costs what it comes to.
