@@ -1,0 +1,4 @@
+pub mod Refused
+pub mod Wires
+pub mod Routing
+pub mod Standing
