@@ -23,7 +23,12 @@ use Rattle.number_lists.proofs.Within.{links_within, outputs_below}
 use Rattle.number_lists.specs.Routed.{IsRouted, Routed, graph_of, numbers_in, routed}
 use Rattle.size_laws.specs.Sizes.{AreWiresOf, IsSmall, IsTooLarge}
 use Rattle.size_laws.proofs.Counts.{none_refuses, twice_overlaps, wires_refuse}
-use Rattle.route_graph.specs.Kept.{AreGraphRows}
+use Rattle.patterns.specs.Bits.{DeviceBit}
+use Rattle.fabric.specs.Graph.{Graph}
+use Rattle.device_numbers.specs.Numbered.{Numbered}
+use Rattle.record_laws.specs.Records.{AreMuxesOf}
+use Rattle.row_laws.specs.BitRows.{AreBitRows}
+use Rattle.route_graph.specs.Kept.{AreGraphEnds, AreGraphRows, IsKept}
 use Rattle.route_graph.specs.Owned.{wire_of}
 use Rattle.route_graph.specs.Why.{IsWhy}
 use Rattle.route_graph.specs.declared.errors.OwnedWire.{OwnedWire}
@@ -37,10 +42,11 @@ too_many_wires device many = wires_refuse device many.wires many.named many.many
 pub memory_says_nothing : (device : Device) (e : GraphError) → e ≡ Memory → IsWhy device e
 memory_says_nothing device e is = subst (IsWhy device) (sym is) tt
 
-pub rows_made : (device : Device) (wires : List Wire) (muxes : MuxTable) (arcs : ArcTable) → muxes ≡ record { tiles = length device.grid.tiles; wires = length wires; muxes = mux_numbers device wires }
+pub rows_made : (device : Device) (wires : List Wire) (muxes : MuxTable) (arcs : ArcTable) → AreWiresOf device wires → muxes ≡ record { tiles = length device.grid.tiles; wires = length wires; muxes = mux_numbers device wires }
     → InOrderOnce numbers_cmp (arc_numbers device wires (muxes_of device wires)) arcs.arcs → (arcs.wires ≡ length wires) × (arcs.muxes ≡ length muxes.muxes)
     → (length muxes.muxes ≤ most_muxes) × (length arcs.arcs ≤ most_arcs) → AreGraphRows device wires muxes arcs
-rows_made device wires muxes arcs table in_order counts few = record {
+rows_made device wires muxes arcs are table in_order counts few = record {
+  wires_are = are;
   muxes_are = table;
   arcs_are = in_order;
   of_wires = counts.0;
@@ -50,8 +56,9 @@ rows_made device wires muxes arcs table in_order counts few = record {
 }
 
 -- muxes and arcs within their limits are those of a graph that isn't too large
-pub small : (device : Device) (wires : List Wire) (muxes : MuxTable) (arcs : ArcTable) → AreWiresOf device wires → length wires ≤ most_wires → AreGraphRows device wires muxes arcs → IsSmall device
-small device wires muxes arcs are few rows g is =
+pub small : (device : Device) (wires : List Wire) (muxes : MuxTable) (arcs : ArcTable) → length wires ≤ most_wires → AreGraphRows device wires muxes arcs → IsSmall device
+small device wires muxes arcs few rows g is =
+    let are : AreWiresOf device wires = rows.wires_are in
     let same : g.wires ≡ wires = one_list wire_cmp wire_total (flat_map (tile_wires device) device.grid.tiles) g.wires wires is.wires are in
     none_refuses device (record { wires = wires; muxes = muxes.muxes; arcs = arcs.arcs; fixed = g.fixed; outputs = g.outputs })
     (record {
@@ -83,21 +90,28 @@ pub few_wires : (wires lent : List Wire) → lent ≡ wires → length lent ≤ 
 few_wires wires lent same few = subst (λ (ws : List Wire). length ws ≤ most_wires) same few
 
 module _ (device : Device) (wires : List Wire) (muxes : MuxTable) (arcs : ArcTable) (fixed : LinkTable) (outputs : OutputTable) where
-  pub is_routed : AreWiresOf device wires → AreGraphRows device wires muxes arcs
-      → InOrderOnce link_cmp (fixed_of device wires) fixed.links → fixed.wires ≡ length wires
-      → InOrderOnce nat_cmp (outputs_of device wires) outputs.outputs → outputs.wires ≡ length wires
-      → IsRouted device wires muxes arcs fixed outputs
-  is_routed are rows links link_wires cells cell_wires = record {
-    numbers = record { wires = are; muxes = ap (λ (m : MuxTable). m.muxes) rows.muxes_are; arcs = rows.arcs_are; fixed = links; outputs = cells };
+  pub is_routed : AreGraphRows device wires muxes arcs → AreGraphEnds device wires fixed outputs → IsRouted device wires muxes arcs fixed outputs
+  is_routed rows ends = record {
+    numbers = record { wires = rows.wires_are; muxes = ap (λ (m : MuxTable). m.muxes) rows.muxes_are; arcs = rows.arcs_are; fixed = ends.links_are; outputs = ends.outputs_are };
     mux_tiles = ap (λ (m : MuxTable). m.tiles) rows.muxes_are;
     mux_wires = ap (λ (m : MuxTable). m.wires) rows.muxes_are;
     arc_wires = rows.of_wires;
     arc_muxes = rows.of_muxes;
-    link_wires = link_wires;
-    output_wires = cell_wires;
+    link_wires = ends.link_wires;
+    output_wires = ends.output_wires;
     few_muxes = rows.few_muxes;
     few_arcs = rows.few_arcs;
   }
 
   pub graph_made : IsRouted device wires muxes arcs fixed outputs → (r : Routed) → r ≡ routed device wires muxes arcs fixed outputs → IsGraph device (graph_of r)
   graph_made is r made = subst (λ (x : Routed). IsGraph device (graph_of x)) (sym made) (whole device (numbers_in wires muxes arcs fixed outputs) is.numbers)
+
+-- what is made of parts is kept
+pub kept_of : (n m : Numbered) (muxes : MuxTable) (arcs : ArcTable) (fixed : LinkTable) (outputs : OutputTable) (bits : List (List DeviceBit)) → m ≡ n → IsRouted n.device n.wires muxes arcs fixed outputs
+    → ((g : Graph) → AreMuxesOf m.device g muxes.muxes → AreBitRows g bits) → IsKept m muxes arcs fixed outputs bits
+kept_of n m muxes arcs fixed outputs bits same is are =
+    let here = subst (λ (x : Numbered). IsRouted x.device x.wires muxes arcs fixed outputs) (sym same) is in
+    record {
+      rows = here;
+      bits_are = are (graph_of (routed m.device m.wires muxes arcs fixed outputs)) (record { is = whole m.device (numbers_in m.wires muxes arcs fixed outputs) here.numbers; muxes_are = here.numbers.muxes });
+    }

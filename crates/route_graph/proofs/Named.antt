@@ -22,7 +22,7 @@ module _ (ws : List wires.Wire) (w : ℕ) (below : w < length ws) where
   name_is o n is h = (let e : Some (wire_name n) ≡ Some (names.Named wire) = ap (option_map wire_name) (sym is) ∙ (h ∙ named_there) in let same : wire_name n ≡ names.Named wire = cc in same)
 
   pub not_ignored : (o : Option WireName) (n : WireName) → o ≡ Some n → option_map wire_name o ≡ option_map names.Named (slice_get ws w) → wire_name n ≡ names.Ignored → ⊥
-  not_ignored o n is h no = (let e : names.Named wire ≡ names.Ignored = sym (name_is o n is h) ∙ no in let wrong : ⊥ = cc in wrong)
+  not_ignored o n is h ignored = (let e : names.Named wire ≡ names.Ignored = sym (name_is o n is h) ∙ ignored in let wrong : ⊥ = cc in wrong)
 
   pub wire_is : (o : Option WireName) (n : WireName) (x : wires.Wire) → o ≡ Some n → option_map wire_name o ≡ option_map names.Named (slice_get ws w) → wire_name n ≡ names.Named x → slice_get ws w ≡ Some x
   wire_is o n x is h named = (let e : names.Named wire ≡ names.Named x = sym (name_is o n is h) ∙ named in let same : wire ≡ x = cc in slice_get-get_or ws w (wires.Wide []) below ∙ ap (λ y. Some y) same)

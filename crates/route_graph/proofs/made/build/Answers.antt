@@ -1,23 +1,25 @@
-use Rattle.std.proofs.Common.{subst}
-use Rattle.std.specs.Prelude.{◌≡◌, IfErr, IfOk}
+use Rattle.std.proofs.Common.{ap, subst, ◌∙◌}
 use Rattle.fabric.specs.Device.{Device}
 use Rattle.fabric.specs.GraphOf.{IsGraph}
-use Rattle.number_lists.specs.Routed.{graph_of}
+use Rattle.number_lists.specs.Routed.{Routed, graph_of}
 use Rattle.size_laws.specs.Sizes.{IsSmall, OverlapsNowhere}
-use Rattle.route_graph.specs.Why.{IsWhy}
+use Rattle.route_graph.proofs.Built.{graph_made, is_routed}
 use Rattle.route_graph.proofs.made.build.Goals as goal
 
+pub of_parts-requires : goal.of_parts-requires
+of_parts-requires c = is_routed c.in_ok-numbers.numbers.device c.in_ok-numbers.numbers.wires c.in_ok-rows.rows.muxes c.in_ok-rows.rows.arcs c.in_ok-ends.ends.fixed c.in_ok-ends.ends.outputs c.in_ok-rows.ensures.rows c.in_ok-ends.ensures.ends
+
 pub returns-clause-device : goal.returns-clause-device
-returns-clause-device c = subst (λ (d : Device). IfOk c.with_links.result (λ g. g.device ≡ d)) c.in_ok-numbers.ensures.device c.with_links.ensures.device
+returns-clause-device c = ap (λ (x : Routed). x.device) c.of_parts.ensures ∙ c.in_ok-numbers.ensures.device
 
 pub returns-clause-graph : goal.returns-clause-graph
-returns-clause-graph c = subst (λ (d : Device). IfOk c.with_links.result (λ g. IsGraph d (graph_of g))) c.in_ok-numbers.ensures.device c.with_links.ensures.graph
+returns-clause-graph c =
+    subst (λ (d : Device). IsGraph d (graph_of c.of_parts.result)) c.in_ok-numbers.ensures.device
+    (graph_made c.in_ok-numbers.numbers.device c.in_ok-numbers.numbers.wires c.in_ok-rows.rows.muxes c.in_ok-rows.rows.arcs c.in_ok-ends.ends.fixed c.in_ok-ends.ends.outputs
+    (is_routed c.in_ok-numbers.numbers.device c.in_ok-numbers.numbers.wires c.in_ok-rows.rows.muxes c.in_ok-rows.rows.arcs c.in_ok-ends.ends.fixed c.in_ok-ends.ends.outputs c.in_ok-rows.ensures.rows c.in_ok-ends.ensures.ends) c.of_parts.result c.of_parts.ensures)
 
 pub returns-clause-small : goal.returns-clause-small
-returns-clause-small c = subst (λ (d : Device). IfOk c.with_links.result (λ g. IsSmall d)) c.in_ok-numbers.ensures.device c.with_links.ensures.small
+returns-clause-small c = subst (λ (d : Device). IsSmall d) c.in_ok-numbers.ensures.device c.in_ok-rows.ensures.small
 
 pub returns-clause-apart : goal.returns-clause-apart
-returns-clause-apart c = subst (λ (d : Device). IfOk c.with_links.result (λ g. OverlapsNowhere d)) c.in_ok-numbers.ensures.device c.with_links.ensures.apart
-
-pub returns-clause-why : goal.returns-clause-why
-returns-clause-why c = subst (λ (d : Device). IfErr c.with_links.result (IsWhy d)) c.in_ok-numbers.ensures.device c.with_links.ensures.why
+returns-clause-apart c = subst (λ (d : Device). OverlapsNowhere d) c.in_ok-numbers.ensures.device c.in_ok-ends.ensures.apart
