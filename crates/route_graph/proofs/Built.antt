@@ -1,5 +1,5 @@
 -- A graph that is made, and why one isn't.
-use Rattle.std.proofs.Common.{◌≡◌, ◌≤◌, ◌<◌, ℕ, List, length, flat_map, slice_get, Some, nat_cmp, refl, sym, ap, subst, ◌∙◌}
+use Rattle.std.proofs.Common.{◌≡◌, ◌≤◌, ℕ, List, length, flat_map, slice_get, Some, nat_cmp, sym, ap, subst, ◌∙◌}
 use Rattle.records.specs.Limits as limits
 use Rattle.records.specs.Limits.{most_wires, most_muxes, most_arcs}
 use Rattle.fabric.specs.InOrder.{InOrderOnce}
@@ -10,7 +10,7 @@ use Rattle.fabric.specs.GraphOf.{IsGraph, fixed_of, link_cmp, muxes_of, outputs_
 use Rattle.fabric_laws.proofs.Orders.{wire_total}
 use Rattle.fabric_laws.proofs.Sorted.{one_list}
 use Rattle.device_wires.specs.Named.{NamesTooMany}
-use Rattle.graph_lists.specs.ArcLists.{ArcNumbers, numbers_cmp}
+use Rattle.graph_lists.specs.ArcLists.{numbers_cmp}
 use Rattle.graph_numbers.specs.Numbers.{mux_numbers}
 use Rattle.graph_numbers.specs.StandFor.{arc_numbers}
 use Rattle.graph_numbers.proofs.Whole.{whole}

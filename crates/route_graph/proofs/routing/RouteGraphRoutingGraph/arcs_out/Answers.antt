@@ -1,4 +1,4 @@
-use Rattle.std.proofs.Common.{◌∙◌, sym, ap}
+use Rattle.std.proofs.Common.{◌∙◌}
 use Rattle.route_graph.proofs.Asked.{of_arcs}
 use Rattle.route_graph.proofs.routing.RouteGraphRoutingGraph.arcs_out.Goals as goal
 

@@ -1,4 +1,4 @@
-use Rattle.std.proofs.Common.{◌∙◌, sym, ap}
+use Rattle.std.proofs.Common.{◌∙◌, ap}
 use Rattle.links.specs.Links.{Link}
 use Rattle.std.proofs.Common.{List}
 use Rattle.graph_lists.specs.FixedLists.{links_into}

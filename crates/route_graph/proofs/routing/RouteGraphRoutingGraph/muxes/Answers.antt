@@ -1,4 +1,4 @@
-use Rattle.std.proofs.Common.{◌∙◌, sym, ap}
+use Rattle.std.proofs.Common.{◌∙◌}
 use Rattle.std.proofs.Common.{arith}
 use Rattle.route_graph.proofs.Asked.{of_muxes}
 use Rattle.route_graph.proofs.routing.RouteGraphRoutingGraph.muxes.Goals as goal
