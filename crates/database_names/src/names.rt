@@ -71,6 +71,13 @@ impl<'a> DatabaseNames<'a> {
         })
     }
 
+    /// The database.
+    pub fn database(&self) -> &'a TileDb
+        ensures { result.now ≡ self.now }
+    {
+        self.db
+    }
+
     /// The place of the mux of a sink in the database; `None` exactly where there is no such mux.
     pub fn mux(&self, sink: &Name) -> Option<usize>
         ensures { result ≡ place_in (map (λ m. m.sink) self.now.muxes) sink.now }
@@ -85,6 +92,15 @@ impl<'a> DatabaseNames<'a> {
     {
         let found = &self.each_mux[mux];
         found.arc(source)
+    }
+
+    /// The place of the first arc of the mux at a place from a source; `None` exactly where the mux has no such arc.
+    pub fn arc_place(&self, mux: usize, source: &Name) -> Option<usize>
+        requires { mux < length self.now.muxes }
+        ensures { result ≡ option_and_then (λ m. place_in (map (λ a. a.source) m.arcs) source.now) (slice_get self.now.muxes mux) }
+    {
+        let found = &self.each_mux[mux];
+        found.place(source)
     }
 
     /// The word of a name; `None` exactly where there is none.

@@ -1,11 +1,11 @@
 //! Muxes and enums with the names of their arcs and options.
 
-ghost use Rattle.std.specs.Prelude.{◌≡◌, IfOk};
+ghost use Rattle.std.specs.Prelude.{◌≡◌, IfOk, map};
 ghost use Rattle.std.specs.Option.{option_copied};
 ghost use Rattle.fabric.specs.Settings.{option_of};
-ghost use Rattle.database_names.specs.Places.{named_in};
+ghost use Rattle.database_names.specs.Places.{named_in, place_in};
 
-use crate::places::{Places, find, places_of};
+use crate::places::{Places, find, place_of, places_of};
 use bits_db::{Arc, EnumOption, EnumSetting, Mux};
 use rr_ids::Name;
 use std::alloc::{AllocError, Global};
@@ -45,6 +45,13 @@ impl<'a> MuxNames<'a> {
     {
         let mux = self.mux;
         find(mux.arcs.as_slice(), &self.sources, source)
+    }
+
+    /// The place of the first arc from a source.
+    pub(crate) fn place(&self, source: &Name) -> Option<usize>
+        ensures { result ≡ place_in (map (λ a. a.source) self.now.arcs) source.now }
+    {
+        place_of(&self.sources, source)
     }
 }
 

@@ -1,0 +1,3 @@
+pub mod ArcNames
+pub mod OfTypes
+pub mod Places
