@@ -8,7 +8,7 @@ use Rattle.route_graph.proofs.Lent.{found_below}
 use Rattle.route_graph.proofs.naming.RouteGraphNamedGraph.mux_named.Goals as goal
 
 pub mux_named-requires : goal.mux_named-requires
-mux_named-requires c = (of_muxes c.self.inside c.self.invariant c.args.self.now c.self.view_is).tiles c.args.t c.requires
+mux_named-requires c = λ k. ((refl, tt), (of_muxes c.self.inside c.self.invariant c.args.self.now c.self.view_is).tiles c.args.t c.requires)
 
 pub returns-clause-named : goal.returns-clause-named
 returns-clause-named c = c.mux_named.ensures (graph_of c.args.self.now) (muxes_known c.self.inside c.self.invariant c.args.self.now c.self.view_is c.self.inside.rows.muxes.muxes refl)

@@ -11,12 +11,12 @@ use Rattle.route_graph.proofs.routing.RouteGraphRoutingGraph.name.Goals as goal
 
 pub unwrap-requires : goal.unwrap-requires
 unwrap-requires c =
-    let same = c.wires.ensures.wires ∙ (ap (λ (n : Numbered). n.wires) c.numbers.ensures ∙ wires_are c.self.inside c.self.invariant c.args.self.now c.self.view_is) in
+    let same = c.wires-wires.ensures.wires ∙ (ap (λ (n : Numbered). n.wires) c.numbers.ensures ∙ wires_are c.self.inside c.self.invariant c.args.self.now c.self.view_is) in
     let h = subst (λ (ws : List Wire). option_map wire_name c.name.result ≡ option_map Named (slice_get ws c.args.w)) same c.name.ensures in
     is_there c.args.self.now.numbers.wires c.args.w c.requires c.name.result h
 
 pub returns : goal.returns
 returns c =
-    let same = c.wires.ensures.wires ∙ (ap (λ (n : Numbered). n.wires) c.numbers.ensures ∙ wires_are c.self.inside c.self.invariant c.args.self.now c.self.view_is) in
+    let same = c.wires-wires.ensures.wires ∙ (ap (λ (n : Numbered). n.wires) c.numbers.ensures ∙ wires_are c.self.inside c.self.invariant c.args.self.now c.self.view_is) in
     let h = subst (λ (ws : List Wire). option_map wire_name c.name.result ≡ option_map Named (slice_get ws c.args.w)) same c.name.ensures in
     sym h ∙ ap (λ (o : Option WireName). option_map wire_name o) c.unwrap.ensures
