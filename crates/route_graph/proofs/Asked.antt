@@ -1,15 +1,13 @@
 -- What is kept gives the lists of the graph.
-use Rattle.std.proofs.Common.{◌≡◌, ℕ, ◌<◌, ◌≤◌, List, length, refl, sym, ap, subst, ◌∙◌, arith}
+use Rattle.std.proofs.Common.{◌≡◌, ◌<◌, List, length, refl, sym, ap, subst}
 use Rattle.std.proofs.lemmas.Option.{slice_get_within}
 use Rattle.words.specs.Members.{In}
-use Rattle.patterns.specs.Bits.{DeviceBit}
 use Rattle.fabric.specs.Wires.{Wire}
 use Rattle.fabric.specs.Device.{Device}
 use Rattle.fabric.specs.Graph.{Graph, GraphArc}
 use Rattle.fabric.specs.GraphOf.{IsGraph}
 use Rattle.fabric_laws.proofs.Standing.{arc_stands}
-use Rattle.mux_rows.specs.MuxTable.{MuxNumbers, MuxTable}
-use Rattle.arc_rows.specs.ArcTable.{ArcTable}
+use Rattle.mux_rows.specs.MuxTable.{MuxNumbers}
 use Rattle.graph_lists.specs.ArcLists.{ArcNumbers}
 use Rattle.graph_numbers.specs.Graphs.{AreGraphNumbers}
 use Rattle.graph_numbers.proofs.Whole.{whole}

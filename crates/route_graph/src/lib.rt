@@ -1,4 +1,5 @@
-//! The routing graph of a device: its wires, muxes, arcs, fixed connections, joins and cell outputs by numbers, in rows.
+//! The routing graph of a device: its wires, muxes, arcs, fixed connections, joins, cell outputs and device bits by numbers, in rows, and
+//! its tiles, muxes, arcs and settings by name.
 #![tactic(auto)]
 
 mod errors;

@@ -46,11 +46,7 @@ impl<'a> NamedGraph for RouteGraph<'a> {
 
 impl<'a> ArcNames for RouteGraph<'a> {
     fn arc_named(&self, m: MuxId, source: &Name) -> Option<ArcId> {
-        self.device.arc_named(
-            self.rows.muxes.muxes(),
-            self.rows.arcs.arcs(),
-            m,
-            source,
-        )
+        self.device
+            .arc_named(self.rows.muxes.muxes(), self.rows.arcs.arcs(), m, source)
     }
 }

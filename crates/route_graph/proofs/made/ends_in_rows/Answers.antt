@@ -1,4 +1,3 @@
-
 use Rattle.route_graph.proofs.made.ends_in_rows.Goals as goal
 
 pub returns-clause-ends : goal.returns-clause-ends

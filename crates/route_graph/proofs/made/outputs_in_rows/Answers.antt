@@ -1,4 +1,4 @@
-use Rattle.std.proofs.Common.{◌≡◌, ◌<◌, ℕ, List, subst, ◌∙◌}
+use Rattle.std.proofs.Common.{◌<◌, ℕ, List, subst, ◌∙◌}
 use Rattle.std.specs.Prelude.{count_by, nat_eq}
 use Rattle.std.specs.Ordering.{nat_cmp}
 use Rattle.fabric.specs.InOrder.{InOrderOnce}

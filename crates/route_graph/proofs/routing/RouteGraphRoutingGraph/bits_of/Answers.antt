@@ -1,4 +1,4 @@
-use Rattle.std.proofs.Common.{◌<◌, length, sym, subst}
+use Rattle.std.proofs.Common.{◌<◌, sym, subst}
 use Rattle.route_graph.proofs.Asked.{of_bits}
 use Rattle.route_graph.proofs.routing.RouteGraphRoutingGraph.bits_of.Goals as goal
 

@@ -1,4 +1,4 @@
-use Rattle.std.proofs.Common.{◌≡◌, ◌∙◌, List, Option, Some, option_map, subst, sym, ap}
+use Rattle.std.proofs.Common.{◌≡◌, ◌∙◌, List, Option, option_map, subst, sym, ap}
 use Rattle.std.specs.Prelude.{slice_get}
 use Rattle.fabric.specs.WireNames.{Named}
 use Rattle.fabric.specs.Wires.{Wire}

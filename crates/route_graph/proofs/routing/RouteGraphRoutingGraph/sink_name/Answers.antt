@@ -1,4 +1,3 @@
-use Rattle.std.proofs.Common.{length}
 use Rattle.fabric.specs.Graph.{GraphMux}
 use Rattle.number_lists.specs.Routed.{graph_of}
 use Rattle.route_graph.proofs.Asked.{muxes_known}
