@@ -23,7 +23,12 @@ use Rattle.number_lists.proofs.Within.{links_within, outputs_below}
 use Rattle.number_lists.specs.Routed.{IsRouted, Routed, graph_of, numbers_in, routed}
 use Rattle.size_laws.specs.Sizes.{AreWiresOf, IsSmall, IsTooLarge}
 use Rattle.size_laws.proofs.Counts.{none_refuses, twice_overlaps, wires_refuse}
-use Rattle.route_graph.specs.Kept.{AreGraphEnds, AreGraphRows}
+use Rattle.patterns.specs.Bits.{DeviceBit}
+use Rattle.fabric.specs.Graph.{Graph}
+use Rattle.device_numbers.specs.Numbered.{Numbered}
+use Rattle.record_laws.specs.Records.{AreMuxesOf}
+use Rattle.row_laws.specs.BitRows.{AreBitRows}
+use Rattle.route_graph.specs.Kept.{AreGraphEnds, AreGraphRows, IsKept}
 use Rattle.route_graph.specs.Owned.{wire_of}
 use Rattle.route_graph.specs.Why.{IsWhy}
 use Rattle.route_graph.specs.declared.errors.OwnedWire.{OwnedWire}
@@ -100,3 +105,13 @@ module _ (device : Device) (wires : List Wire) (muxes : MuxTable) (arcs : ArcTab
 
   pub graph_made : IsRouted device wires muxes arcs fixed outputs → (r : Routed) → r ≡ routed device wires muxes arcs fixed outputs → IsGraph device (graph_of r)
   graph_made is r made = subst (λ (x : Routed). IsGraph device (graph_of x)) (sym made) (whole device (numbers_in wires muxes arcs fixed outputs) is.numbers)
+
+-- what is made of parts is kept
+pub kept_of : (n m : Numbered) (muxes : MuxTable) (arcs : ArcTable) (fixed : LinkTable) (outputs : OutputTable) (bits : List (List DeviceBit)) → m ≡ n → IsRouted n.device n.wires muxes arcs fixed outputs
+    → ((g : Graph) → AreMuxesOf m.device g muxes.muxes → AreBitRows g bits) → IsKept m muxes arcs fixed outputs bits
+kept_of n m muxes arcs fixed outputs bits same is are =
+    let here = subst (λ (x : Numbered). IsRouted x.device x.wires muxes arcs fixed outputs) (sym same) is in
+    record {
+      rows = here;
+      bits_are = are (graph_of (routed m.device m.wires muxes arcs fixed outputs)) (record { is = whole m.device (numbers_in m.wires muxes arcs fixed outputs) here.numbers; muxes_are = here.numbers.muxes });
+    }

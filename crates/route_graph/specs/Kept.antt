@@ -2,6 +2,7 @@
 use Rattle.std.specs.Prelude.{◌≡◌, ◌≤◌, List, flat_map, length}
 use Rattle.std.specs.Ordering.{nat_cmp}
 use Rattle.records.specs.Limits.{most_arcs, most_muxes}
+use Rattle.patterns.specs.Bits.{DeviceBit}
 use Rattle.fabric.specs.InOrder.{InOrderOnce}
 use Rattle.fabric.specs.Wires.{Wire, wire_cmp}
 use Rattle.fabric.specs.Device.{Device}
@@ -11,6 +12,9 @@ use Rattle.graph_lists.specs.ArcLists.{numbers_cmp}
 use Rattle.mux_rows.specs.MuxTable.{MuxTable}
 use Rattle.arc_rows.specs.ArcTable.{ArcTable}
 use Rattle.link_rows.specs.Kept.{LinkTable, OutputTable}
+use Rattle.row_laws.specs.BitRows.{AreBitRows}
+use Rattle.device_numbers.specs.Numbered.{Numbered}
+use Rattle.number_lists.specs.Routed.{IsRouted, graph_of, routed}
 use Rattle.graph_numbers.specs.Numbers.{mux_numbers}
 use Rattle.graph_numbers.specs.StandFor.{arc_numbers}
 
@@ -30,3 +34,8 @@ pub record AreGraphEnds (device : Device) (wires : List Wire) (fixed : LinkTable
   pub link_wires : fixed.wires ≡ length wires
   pub outputs_are : InOrderOnce nat_cmp (outputs_of device wires) outputs.outputs
   pub output_wires : outputs.wires ≡ length wires
+
+-- What is kept in rows is what the device has, and the bits are those of the graph's muxes.
+pub record IsKept (n : Numbered) (muxes : MuxTable) (arcs : ArcTable) (fixed : LinkTable) (outputs : OutputTable) (bits : List (List DeviceBit)) : Type 0 where
+  pub rows : IsRouted n.device n.wires muxes arcs fixed outputs
+  pub bits_are : AreBitRows (graph_of (routed n.device n.wires muxes arcs fixed outputs)) bits

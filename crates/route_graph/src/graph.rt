@@ -2,31 +2,33 @@
 
 ghost use Rattle.std.specs.Prelude.{◌≡◌};
 
+use bit_rows::BitRows;
 use device_names::Device;
-use device_numbers::DeviceNumbers;
 use graph_rows::GraphRows;
 use link_rows::{CellOutputs, LinkRows};
+use named_device::NamedDevice;
 use std::marker::Model;
-use tile_grid::Grid;
 
 /// The routing graph of a device. Contracts see the device and the numbers that stand for its graph over it. Ids must be
 /// below the graph's counts.
 #[derive(Drop)]
 pub struct RouteGraph<'a> {
-    pub(crate) numbers: DeviceNumbers<'a>,
+    pub(crate) device: NamedDevice<'a>,
     pub(crate) rows: GraphRows,
     pub(crate) fixed: LinkRows,
     pub(crate) outputs: CellOutputs,
+    pub(crate) bits: BitRows,
 }
 
 impl<'a> Model for RouteGraph<'a> {
-    ghost use Rattle.number_lists.specs.Routed.{IsRouted, Routed, routed};
+    ghost use Rattle.number_lists.specs.Routed.{Routed, routed};
+    ghost use Rattle.route_graph.specs.Kept.{IsKept};
 
     ghost Value = { Routed };
 
-    ghost view = { λ r. routed r.numbers.device r.numbers.wires r.rows.muxes r.rows.arcs r.fixed r.outputs };
+    ghost view = { λ r. routed r.device.device r.device.wires r.rows.muxes r.rows.arcs r.fixed r.outputs };
 
-    ghost invariant = { λ r. IsRouted r.numbers.device r.numbers.wires r.rows.muxes r.rows.arcs r.fixed r.outputs };
+    ghost invariant = { λ r. IsKept r.device r.rows.muxes r.rows.arcs r.fixed r.outputs r.bits };
 }
 
 impl<'a> RouteGraph<'a> {
@@ -40,23 +42,7 @@ impl<'a> RouteGraph<'a> {
         ensures numbers { AreGraphNumbers self.now.device self.now.numbers }
         ensures graph { IsGraph self.now.device (graph_of self.now) }
     {
-        self.numbers.device()
-    }
-
-    /// The grid of the device.
-    pub fn grid(&self) -> &'a Grid
-        ensures { result.now ≡ self.now.device.grid }
-    {
-        let device = self.numbers.device();
-        device.grid
-    }
-
-    /// The device with its wires under numbers.
-    pub fn numbers(&self) -> &DeviceNumbers<'a>
-        ensures device { result.now.device ≡ self.now.device }
-        ensures wires { result.now.wires ≡ self.now.numbers.wires }
-    {
-        &self.numbers
+        self.device.numbers().device()
     }
 
     /// The muxes and arcs in rows.

@@ -1,17 +1,22 @@
 //! How a routing graph is made.
 
-ghost use Rattle.std.specs.Prelude.{◌≡◌, ◌<◌, ℕ, IfErr, IfOk, length};
+ghost use Rattle.std.specs.Prelude.{◌≡◌, ◌<◌, ◌≤◌, ℕ, IfErr, IfOk, length};
 ghost use Rattle.std.specs.Ordering.{nat_cmp};
+ghost use Rattle.fabric.specs.Graph.{Graph};
 ghost use Rattle.fabric.specs.GraphOf.{IsGraph, fixed_of, link_cmp, outputs_of};
 ghost use Rattle.fabric.specs.InOrder.{InOrderOnce};
 ghost use Rattle.link_rows.specs.Kept.{IsFirstTwice};
 ghost use Rattle.number_lists.specs.Routed.{IsRouted, graph_of, routed};
+ghost use Rattle.record_laws.specs.Records.{AreMuxesOf};
+ghost use Rattle.records.specs.Limits.{most_muxes};
+ghost use Rattle.row_laws.specs.BitRows.{AreBitRows};
 ghost use Rattle.size_laws.specs.Sizes.{IsSmall, OverlapsNowhere};
 ghost use Rattle.route_graph.specs.Kept.{AreGraphEnds, AreGraphRows};
 ghost use Rattle.route_graph.specs.Why.{IsWhy};
 
 use crate::owned::owned_wire;
 use crate::{GraphError, RouteGraph};
+use bit_rows::BitRows;
 use device_names::Device;
 use device_numbers::DeviceNumbers;
 use device_wires::WiresError;
@@ -19,8 +24,12 @@ use fixed_links::links_of;
 use graph_rows::{GraphRows, RowsError, rows_of};
 use link_order::Link;
 use link_rows::{CellOutputs, LinkRows, OutputsError};
+use mux_bits::bits_of_graph;
+use mux_rows::MuxRows;
+use named_device::NamedDevice;
 use rr_ids::WireId;
 use std::alloc::{AllocError, Global};
+use type_bits::MovedBits;
 
 // The wires of a device under numbers.
 #[tactic(auto, using(crate::proofs::Built::too_many_wires))]
@@ -129,17 +138,38 @@ fn ends_in_rows(alloc: Global, numbers: &DeviceNumbers<'_>) -> Result<Ends, Grap
     Ok(Ends { fixed, outputs })
 }
 
-// The routing graph of parts that are those of a device.
-fn of_parts<'a>(numbers: DeviceNumbers<'a>, rows: GraphRows, ends: Ends) -> RouteGraph<'a>
-    requires { IsRouted numbers.device numbers.wires rows.muxes rows.arcs ends.fixed ends.outputs }
-    ensures { result ≡ routed numbers.entry.device numbers.entry.wires rows.muxes rows.arcs ends.fixed ends.outputs }
+// The bits of the muxes of a device in rows.
+fn bits_in_rows(
+    alloc: Global,
+    device: &NamedDevice<'_>,
+    muxes: &MuxRows,
+) -> Result<BitRows, AllocError>
+    requires { length muxes.now.muxes ≤ most_muxes }
+    ensures { IfOk result (λ bits. (g : Graph) → AreMuxesOf device.now.device g muxes.now.muxes → AreBitRows g bits) }
 {
-    RouteGraph {
-        numbers,
+    let moved = MovedBits::new(alloc, device)?;
+    bits_of_graph(alloc, &moved, muxes.muxes())
+}
+
+// The routing graph of parts that are those of a device.
+fn of_parts<'a>(
+    alloc: Global,
+    numbers: DeviceNumbers<'a>,
+    rows: GraphRows,
+    ends: Ends,
+) -> Result<RouteGraph<'a>, AllocError>
+    requires { IsRouted numbers.device numbers.wires rows.muxes rows.arcs ends.fixed ends.outputs }
+    ensures { IfOk result (λ g. g ≡ routed numbers.entry.device numbers.entry.wires rows.muxes rows.arcs ends.fixed ends.outputs) }
+{
+    let device = NamedDevice::new(alloc, numbers)?;
+    let bits = bits_in_rows(alloc, &device, &rows.muxes)?;
+    Ok(RouteGraph {
+        device,
         rows,
         fixed: ends.fixed,
         outputs: ends.outputs,
-    }
+        bits,
+    })
 }
 
 /// The routing graph of a device. `Wires`, `Muxes` and `Arcs` exactly where the graph is too large in this quantity and in none
@@ -155,5 +185,6 @@ pub fn build<'a>(alloc: Global, device: &'a Device<'a>) -> Result<RouteGraph<'a>
     let numbers = numbered(alloc, device)?;
     let rows = in_rows(alloc, &numbers)?;
     let ends = ends_in_rows(alloc, &numbers)?;
-    Ok(of_parts(numbers, rows, ends))
+    let graph = of_parts(alloc, numbers, rows, ends)?;
+    Ok(graph)
 }

@@ -1,0 +1,6 @@
+use Rattle.number_lists.specs.Routed.{graph_of}
+use Rattle.route_graph.proofs.Asked.{muxes_known}
+use Rattle.route_graph.proofs.naming.RouteGraphNamedGraph.pattern_named.Goals as goal
+
+pub returns : goal.returns
+returns c = c.pattern_named.ensures (graph_of c.args.self.now) (muxes_known c.self.inside c.self.invariant c.args.self.now c.self.view_is c.muxes.result.now c.muxes.ensures)

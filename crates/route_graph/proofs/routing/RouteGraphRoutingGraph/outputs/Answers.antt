@@ -1,0 +1,6 @@
+use Rattle.std.proofs.Common.{◌∙◌}
+use Rattle.route_graph.proofs.Asked.{of_ends}
+use Rattle.route_graph.proofs.routing.RouteGraphRoutingGraph.outputs.Goals as goal
+
+pub returns : goal.returns
+returns c = c.outputs.ensures ∙ (of_ends c.self.inside c.self.invariant c.args.self.now c.self.view_is).all_outputs
