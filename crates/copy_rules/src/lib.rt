@@ -1,0 +1,6 @@
+//! Copies that differ: pins that aren't fed alike, and registers of a triple that aren't copies of each other.
+#![tactic(auto)]
+
+mod feeds;
+
+pub use feeds::fed_alike;
