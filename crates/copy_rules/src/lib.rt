@@ -2,5 +2,7 @@
 #![tactic(auto)]
 
 mod feeds;
+mod inputs;
+mod pair;
 
 pub use feeds::fed_alike;
