@@ -1,2 +1,4 @@
 pub mod Feeds
 pub mod Inputs
+pub mod Fields
+pub mod Copies

@@ -2,7 +2,12 @@
 #![tactic(auto)]
 
 mod feeds;
+mod field;
+mod fields;
 mod inputs;
 mod pair;
+mod registers;
 
 pub use feeds::fed_alike;
+pub use field::Field;
+pub use fields::first_field;

@@ -1,0 +1,11 @@
+use Rattle.std.proofs.Common.{◌<◌, length, sym, subst}
+use Rattle.circuit.specs.Parts.{sources}
+use Rattle.copy_rules.specs.Copies.{IsRegisterAt, NoRegisterAt}
+use Rattle.copy_rules.specs.Fields.{field_of}
+use Rattle.copy_rules.proofs.Differing.{below, not_first, not_second, differs_told}
+use Rattle.copy_rules.proofs.registers.differs_at.Goals as goal
+
+pub returns-in-None : goal.returns-in-None
+returns-in-None c = λ circuit shows.
+    not_first c.args.parts.now circuit shows.cells_are (field_of c.args.field) c.args.pair.now.first c.args.pair.now.second
+    (subst (λ all. NoRegisterAt all c.args.pair.now.first) c.sources.ensures.all c.in-None.ensures)
