@@ -99,7 +99,7 @@ module _ (cells : Cells) (c : Circuit) (same : c.cells ≡ cells) (f : checks.Fi
     u_at = subst (λ v. slice_get (sources v) k ≡ Some at_r.0) (sym same) at_r.1.0
 
     unlike : (AlikeIn c f at_q.0.part at_r.0.part q r → ⊥) → DiffersAt c f j k
-    unlike no = record {
+    unlike apart = record {
       first = at_q.0;
       second = at_r.0;
       q = q;
@@ -108,7 +108,7 @@ module _ (cells : Cells) (c : Circuit) (same : c.cells ≡ cells) (f : checks.Fi
       second_at = u_at;
       first_kind = at_q.1.1;
       second_kind = at_r.1.1;
-      differs = no;
+      differs = apart;
     }
 
     moved : (d : DiffersAt c f j k) → AlikeIn c f at_q.0.part at_r.0.part q r → ⊥
