@@ -5,9 +5,11 @@ mod feeds;
 mod field;
 mod fields;
 mod inputs;
+mod outputs;
 mod pair;
 mod registers;
 
 pub use feeds::fed_alike;
 pub use field::Field;
 pub use fields::first_field;
+pub use outputs::outputs_differ;
