@@ -1,5 +1,5 @@
 -- Registers that differ in a field.
-use Rattle.std.proofs.Common.{◌≡◌, ◌↔◌, ℕ, ◌<◌, Bool, true, false, not, List, [], ◌∷◌, ◌++◌, length, get_or, Option, None, Some, inl, inr, refl, sym, ap, subst, ◌∙◌, Bor}
+use Rattle.std.proofs.Common.{◌≡◌, ◌↔◌, ℕ, ◌<◌, Bool, true, false, not, List, ◌++◌, length, get_or, Option, None, Some, inl, inr, refl, sym, ap, subst, ◌∙◌, Bor}
 use Rattle.std.specs.Prelude.{IsTrue, MatchOption, slice_get}
 use Rattle.std.proofs.lemmas.Bool.{false≢true}
 use Rattle.std.proofs.lemmas.Option.{slice_get_within}
@@ -7,7 +7,7 @@ use Rattle.words.specs.Members.{In}
 use Rattle.records.specs.Side.{Triple}
 use Rattle.links.proofs.Members.{in_left, in_right}
 use Rattle.circuit.specs.Cells.{Cells, Input, RegisterCell}
-use Rattle.circuit.specs.Parts.{Kind, OfRegister, PartRef, Register, Source, sources}
+use Rattle.circuit.specs.Parts.{Kind, OfRegister, Register, Source, sources}
 use Rattle.circuit.specs.Pins.{Pin, input_pin, data_pins, bit_pins_of, clock_pins_of, source_pins}
 use Rattle.circuit.specs.Triples.{IsEntry}
 use Rattle.circuit.specs.Circuits.{Circuit}
@@ -15,9 +15,8 @@ use Rattle.circuit.specs.Triplicated.{ReadPart}
 use Rattle.design_checks.specs.CopyChecks as checks
 use Rattle.design_checks.specs.CopyChecks.{part_in, AlikeIn, RegistersDiffer, TwoRegisters, IsFirstField, fields_before}
 use Rattle.fabric_laws.proofs.Numbered.{number_there}
-use Rattle.table_masks.specs.Least.{ShowsFeeds}
 use Rattle.copy_rules.specs.Inputs.{HasInput, TakenAlike}
-use Rattle.copy_rules.specs.Copies.{IsRegisterAt, NoRegisterAt, AlikeTold, DiffersAt, DiffersFrom, SomeDiffer, IsReadCopy, AreReadCopies}
+use Rattle.copy_rules.specs.Copies.{IsRegisterAt, NoRegisterAt, AlikeTold, DiffersAt, SomeDiffer, IsReadCopy, AreReadCopies}
 
 some_source : (a b : Source) → Some a ≡ Some b → a ≡ b
 some_source a b h = cc
@@ -138,19 +137,33 @@ module _ (c : Circuit) (t : Triple) (number : ℕ) (copies : List ℕ) (are : Ar
       let a = are.each x.0 x.1.0 in
       let b = are.each x.1.1.0 x.1.1.1.0 in
       let first = copy_is (get_or copies x.0 0) a d.first d.first_at in
-      let second = copy_is (get_or copies x.1.1.0 0) b d.second d.second_at in
-      (d.first, (d.second, (d.q, (d.r, (record {
-        first_cell = a.cell;
-        second_cell = b.cell;
-        first_copy = a.copy;
-        second_copy = b.copy;
-        first_is = sym (ap (λ (z : Source). z.part) first) ∙ a.is;
-        second_is = sym (ap (λ (z : Source). z.part) second) ∙ b.is;
-        first_read = subst (λ (z : Source). ReadPart c z) first a.read;
-        second_read = subst (λ (z : Source). ReadPart c z) second b.read;
-        first_kind = d.first_kind;
-        second_kind = d.second_kind;
-      }, d.differs)))))
+      let second = copy_is (get_or copies x.1.1.0 0) b d.second d.second_at in (
+        d.first,
+        (
+          d.second,
+          (
+            d.q,
+            (
+              d.r,
+              (
+                record {
+                  first_cell = a.cell;
+                  second_cell = b.cell;
+                  first_copy = a.copy;
+                  second_copy = b.copy;
+                  first_is = sym (ap (λ (z : Source). z.part) first) ∙ a.is;
+                  second_is = sym (ap (λ (z : Source). z.part) second) ∙ b.is;
+                  first_read = subst (λ (z : Source). ReadPart c z) first a.read;
+                  second_read = subst (λ (z : Source). ReadPart c z) second b.read;
+                  first_kind = d.first_kind;
+                  second_kind = d.second_kind;
+                },
+                d.differs,
+              ),
+            ),
+          ),
+        ),
+      )
 
   there : (s : Source) (cell : List ℕ) → IsEntry t cell → s.part ≡ part_in cell (Register number) → ReadPart c s → (i : ℕ) × ((i < length copies) × (slice_get (sources c.cells) (get_or copies i 0) ≡ Some s))
   there s cell entry is read =
@@ -162,18 +175,29 @@ module _ (c : Circuit) (t : Triple) (number : ℕ) (copies : List ℕ) (are : Ar
   some_differ f x =
       let two = x.1.1.1.1.0 in
       let i = there x.0 two.first_cell two.first_copy two.first_is two.first_read in
-      let j = there x.1.0 two.second_cell two.second_copy two.second_is two.second_read in
-      (i.0, (i.1.0, (j.0, (j.1.0, record {
-        first = x.0;
-        second = x.1.0;
-        q = x.1.1.0;
-        r = x.1.1.1.0;
-        first_at = i.1.1;
-        second_at = j.1.1;
-        first_kind = two.first_kind;
-        second_kind = two.second_kind;
-        differs = x.1.1.1.1.1;
-      }))))
+      let j = there x.1.0 two.second_cell two.second_copy two.second_is two.second_read in (
+        i.0,
+        (
+          i.1.0,
+          (
+            j.0,
+            (
+              j.1.0,
+              record {
+                first = x.0;
+                second = x.1.0;
+                q = x.1.1.0;
+                r = x.1.1.1.0;
+                first_at = i.1.1;
+                second_at = j.1.1;
+                first_kind = two.first_kind;
+                second_kind = two.second_kind;
+                differs = x.1.1.1.1.1;
+              },
+            ),
+          ),
+        ),
+      )
 
   abbrev No : checks.Field → Type 0
   No f = SomeDiffer c f copies → ⊥

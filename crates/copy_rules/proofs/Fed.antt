@@ -1,25 +1,22 @@
 -- Pins that parts of one triple feed.
-use Rattle.std.proofs.Common.{◌≡◌, ◌↔◌, ℕ, zero, suc, ◌+◌, ◌-◌, ◌<◌, ◌≤◌, Bool, true, false, List, [], ◌∷◌, ◌++◌, length, get_or, drop, Option, None, Some, inl, inr, option_map, option_and_then, refl, sym, ap, subst, ◌∙◌, arith}
+use Rattle.std.proofs.Common.{◌≡◌, ◌↔◌, ℕ, ◌+◌, ◌-◌, ◌<◌, Bool, List, [], ◌++◌, length, get_or, drop, Option, None, Some, inl, inr, option_map, option_and_then, refl, sym, ap, subst, ◌∙◌, arith}
 use Rattle.std.specs.Prelude.{IsTrue, slice_get, slice_range}
 use Rattle.std.proofs.lemmas.List.{length-take, length-drop, get_or-take, get_or-drop}
 use Rattle.std.proofs.lemmas.Option.{get_or_from_slice_get, slice_get-get_or, slice_get_within}
 use Rattle.words.specs.Members.{In}
 use Rattle.records.specs.Side.{Side}
 use Rattle.links.proofs.Members.{in_either}
-use Rattle.circuit.specs.Cells.{Cells, Input, InputWire, InputNotWire, InputZero, InputOne, RegisterCell, TableCell}
+use Rattle.circuit.specs.Cells.{Cells, Input, InputWire, InputNotWire, InputZero, InputOne, RegisterCell}
 use Rattle.circuit.specs.Parts.{PartRef, Kind, OfTable, OfRegister, OfInput, OfClock, Source, sources}
 use Rattle.circuit.specs.Pins.{Pin, pin_at, input_pin, table_pins, data_pins, bit_pins_of, clock_pins_of, source_pins, pins}
-use Rattle.circuit.specs.Triples.{triple_of}
 use Rattle.circuit.specs.Circuits.{Circuit, Connects}
 use Rattle.circuit.specs.Registers.{FedAlike}
 use Rattle.circuit_laws.proofs.Parts.{of_numbered}
 use Rattle.circuit_laws.proofs.Refs.{pin_same}
 use Rattle.circuit_parts.specs.Flat.{first_pin}
 use Rattle.fabric_laws.proofs.Numbered.{get_in, number_there}
-use Rattle.pin_feeds.specs.Told.{Tells}
-use Rattle.pin_feeds.specs.PinFeeds.{feed_source}
 use Rattle.pin_feeds.proofs.Connected.{connects_told}
-use Rattle.part_triples.specs.Numbers.{AreCopies, numbers_of}
+use Rattle.part_triples.specs.Numbers.{numbers_of}
 use Rattle.table_masks.specs.Least.{ShowsFeeds}
 use Rattle.copy_rules.specs.Feeds.{IsFeedOf, IsNumbered, SameFeeds}
 

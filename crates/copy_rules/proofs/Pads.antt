@@ -1,18 +1,15 @@
 -- Output pads that aren't fed by the same triple.
-use Rattle.std.proofs.Common.{◌≡◌, ◌↔◌, ℕ, zero, suc, ◌<◌, Bool, true, false, not, List, [], ◌∷◌, length, get_or, Option, None, Some, refl, sym, ap, subst, ◌∙◌, arith}
+use Rattle.std.proofs.Common.{◌≡◌, ◌↔◌, ℕ, zero, suc, ◌<◌, Bool, true, false, not, List, [], ◌∷◌, length, Some, refl, sym, subst, ◌∙◌, arith}
 use Rattle.std.specs.Prelude.{IsTrue, slice_get}
 use Rattle.std.proofs.lemmas.Bool.{false≢true}
 use Rattle.std.proofs.lemmas.Option.{slice_get_within}
-use Rattle.words.specs.Members.{In}
 use Rattle.records.specs.Side.{Triple}
-use Rattle.circuit.specs.Cells.{Cells, PadCell}
-use Rattle.circuit.specs.Parts.{output_pads}
+use Rattle.circuit.specs.Cells.{Cells}
 use Rattle.circuit.specs.Pins.{Pin, pad_pin, pins}
-use Rattle.circuit.specs.Triples.{IsEntry}
 use Rattle.circuit.specs.Circuits.{Circuit}
 use Rattle.circuit.specs.Registers.{FedAlike}
 use Rattle.design_checks.specs.CopyChecks.{OutputsDiffer}
-use Rattle.copy_rules.specs.Outputs.{FedUnlike, UnlikeFrom, SomeUnlike, AreOutputPins}
+use Rattle.copy_rules.specs.Outputs.{FedUnlike, SomeUnlike, AreOutputPins}
 
 some_pin : (a b : Pin) → Some a ≡ Some b → a ≡ b
 some_pin a b h = cc
@@ -67,14 +64,25 @@ module _ (c : Circuit) (t : Triple) (listed : List ℕ) (are : AreOutputPins c t
   some_unlike : OutputsDiffer c t → SomeUnlike c listed
   some_unlike x =
       let i = are.all x.0 x.1.1.0 x.1.1.1.1.0 in
-      let j = are.all x.1.0 x.1.1.1.0 x.1.1.1.1.1.0 in
-      (i.0, (i.1.0, (j.0, (j.1.0, record {
-        first = pad_pin x.0;
-        second = pad_pin x.1.0;
-        first_at = i.1.1;
-        second_at = j.1.1;
-        differs = x.1.1.1.1.1.1;
-      }))))
+      let j = are.all x.1.0 x.1.1.1.0 x.1.1.1.1.1.0 in (
+        i.0,
+        (
+          i.1.0,
+          (
+            j.0,
+            (
+              j.1.0,
+              record {
+                first = pad_pin x.0;
+                second = pad_pin x.1.0;
+                first_at = i.1.1;
+                second_at = j.1.1;
+                differs = x.1.1.1.1.1.1;
+              },
+            ),
+          ),
+        ),
+      )
 
   pub outputs_told : (r : Bool) → IsTrue r ↔ SomeUnlike c listed → IsTrue r ↔ OutputsDiffer c t
   outputs_told r told = ((λ h. outputs_differ (told.0 h)), (λ d. told.1 (some_unlike d)))

@@ -1,20 +1,19 @@
 -- What two registers take at a pin.
-use Rattle.std.proofs.Common.{◌≡◌, ◌↔◌, ℕ, Bool, true, false, List, [], ◌∷◌, Option, None, Some, option_and_then, inl, inr, refl, sym, ap, subst, ◌∙◌}
-use Rattle.std.specs.Prelude.{IsTrue, slice_get, if◌then◌else◌}
+use Rattle.std.proofs.Common.{◌≡◌, ◌↔◌, ℕ, Bool, true, false, List, Option, inl, refl, sym, subst}
+use Rattle.std.specs.Prelude.{IsTrue, if◌then◌else◌}
 use Rattle.std.proofs.lemmas.Bool.{false≢true}
-use Rattle.words.specs.Members.{In}
 use Rattle.records.specs.Side.{Side}
 use Rattle.circuit.specs.Cells.{Cells, Input, InputWire, InputNotWire, InputZero, InputOne}
-use Rattle.circuit.specs.Parts.{PartRef, Source, sources}
-use Rattle.circuit.specs.Pins.{Pin, pin_at, source_pins}
-use Rattle.circuit.specs.Circuits.{Circuit, Connects}
-use Rattle.circuit.specs.Registers.{FedAlike, TakesAlike}
+use Rattle.circuit.specs.Parts.{PartRef, sources}
+use Rattle.circuit.specs.Pins.{pin_at}
+use Rattle.circuit.specs.Circuits.{Circuit}
+use Rattle.circuit.specs.Registers.{TakesAlike}
 use Rattle.part_triples.specs.Numbers.{numbers_of}
 use Rattle.table_masks.specs.Least.{ShowsFeeds}
 use Rattle.copy_rules.specs.Feeds.{IsFeedOf, SameFeeds}
 use Rattle.copy_rules.specs.declared.inputs.Form.{Form}
 use Rattle.copy_rules.specs.declared.inputs.Form.TheVariants.{Apart, Constant, Wires}
-use Rattle.copy_rules.specs.Inputs.{FedAlikeAt, HasInput, TakenAlike, form_in, same_form, takes_wire}
+use Rattle.copy_rules.specs.Inputs.{FedAlikeAt, TakenAlike, form_in, same_form, takes_wire}
 use Rattle.copy_rules.proofs.Fed.{alike_by}
 
 -- pins by the numbers of their parts

@@ -1,6 +1,5 @@
 -- The copies of a register, and in what two of them differ. (Our own.)
 use Rattle.std.specs.Prelude.{◌≡◌, ◌↔◌, ℕ, ◌<◌, Bool, List, length, get_or, slice_get, IsTrue, Option, None, Some}
-use Rattle.words.specs.Members.{In}
 use Rattle.records.specs.Side.{Triple}
 use Rattle.circuit.specs.Cells.{RegisterCell}
 use Rattle.circuit.specs.Parts.{Register, OfRegister, Source, sources}

@@ -1,8 +1,7 @@
-use Rattle.std.proofs.Common.{◌<◌, length, sym, subst}
-use Rattle.circuit.specs.Parts.{sources}
-use Rattle.copy_rules.specs.Copies.{IsRegisterAt, NoRegisterAt}
+use Rattle.std.proofs.Common.{subst}
+use Rattle.copy_rules.specs.Copies.{NoRegisterAt}
 use Rattle.copy_rules.specs.Fields.{field_of}
-use Rattle.copy_rules.proofs.Differing.{below, not_first, not_second, differs_told}
+use Rattle.copy_rules.proofs.Differing.{not_first, not_second}
 use Rattle.copy_rules.proofs.registers.differs_at.Goals as goal
 
 pub returns-in-None : goal.returns-in-None
