@@ -1,0 +1,4 @@
+pub mod Fed
+pub mod Taken
+pub mod Differing
+pub mod Pads

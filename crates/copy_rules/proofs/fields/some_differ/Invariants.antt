@@ -1,0 +1,10 @@
+use Rattle.std.proofs.Common.{ℕ, ◌<◌, get_or}
+use Rattle.circuit.specs.Circuits.{Circuit}
+use Rattle.table_masks.specs.Least.{ShowsFeeds}
+use Rattle.copy_rules.specs.Fields.{field_of}
+use Rattle.copy_rules.specs.Copies.{DiffersFrom}
+use Rattle.copy_rules.proofs.fields.some_differ.Given as goal
+
+-- none so far differs from a copy
+abbrev pub invariant-loop-i : goal.invariant-loop-i
+invariant-loop-i l = (c : Circuit) → ShowsFeeds c l.parts l.feeds l.triples → (m : ℕ) → m < l.i → DiffersFrom c (field_of l.field) l.copies (get_or l.copies m 0) → ⊥

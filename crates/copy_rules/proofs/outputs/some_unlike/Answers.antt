@@ -1,0 +1,13 @@
+use Rattle.std.proofs.Common.{◌<◌, sym, subst, below_more, arith}
+use Rattle.std.proofs.lemmas.Bool.{false≢true}
+use Rattle.copy_rules.specs.Outputs.{UnlikeFrom}
+use Rattle.copy_rules.proofs.outputs.some_unlike.Goals as goal
+
+-- one pin more isn't fed otherwise than any
+pub loop-i-preserved : goal.loop-i-preserved
+loop-i-preserved c = λ circuit shows.
+    below_more _ _ (c.loop-i.invariant circuit shows)
+    (λ d. false≢true ((c.if-unlike_from.ensures circuit shows).1 (subst (λ k. UnlikeFrom circuit c.args.pins.now k) (sym c.pin_at.ensures) d)))
+
+pub returns : goal.returns
+returns c = λ circuit shows. ((λ h. absurd (false≢true h)), (λ d. absurd (let b = d.1.0 in let below : d.0 < c.loop-i.i = omega arith in c.loop-i.invariant circuit shows d.0 below d.1.1)))
