@@ -1,0 +1,4 @@
+pub mod Named
+pub mod Known
+pub mod Feeding
+pub mod Steps

@@ -1,0 +1,4 @@
+pub mod Graphless
+pub mod CellFaults
+pub mod Formed
+pub mod Refusals
