@@ -1,0 +1,77 @@
+use Rattle.std.proofs.Common.{◌≡◌, ℕ, List, refl, sym, ap, subst, ◌∙◌, rules}
+use Rattle.std.specs.Prelude.{Ok, Err}
+use Rattle.records.specs.Config.{Config}
+use Rattle.commands.specs.Commands.{Inputs}
+use Rattle.design_files.specs.Parsed.{Files}
+use Rattle.design_files.specs.Designs.{design_of}
+use Rattle.run_ends.specs.Reads.{IsReached}
+use Rattle.design_reader.specs.declared.errors.FileError.{FileError}
+use Rattle.design_reader.specs.Answers.{Gives}
+use Rattle.design_reader.proofs.Designs.{config_refused, grid_refused, profile_refused, side_refused, databases_refused, read_whole}
+use Rattle.design_reader.proofs.design.read_design.Goals as goal
+
+pub returns-in_err-config-clause-answer : goal.returns-in_err-config-clause-answer
+returns-in_err-config-clause-answer g c = λ told.
+    let files : Files = g.F.Files.file c.args.files.now in
+    let inputs : Inputs = record { family = c.inputs.inside.family.now; profile = c.inputs.inside.profile.now; side = c.inputs.inside.side.now; config = c.inputs.inside.config.now } in
+    let e : FileError = c.in_err-config.field-0.0 in
+    let is : c.from_residual.result ≡ Err e = search rules in
+    subst (Gives (λ d. d) (design_of files c.args.inputs.now) (IsReached files c.args.inputs.now)) (sym is)
+    (config_refused files files files files files inputs c.args.inputs.now c.inputs.view_is e (c.in_err-config.ensures.answer told))
+
+pub returns-in_err-grid-clause-answer : goal.returns-in_err-grid-clause-answer
+returns-in_err-grid-clause-answer g c = λ told.
+    let files : Files = g.F.Files.file c.args.files.now in
+    let inputs : Inputs = record { family = c.inputs.inside.family.now; profile = c.inputs.inside.profile.now; side = c.inputs.inside.side.now; config = c.inputs.inside.config.now } in
+    let told_config = c.in_ok-config.ensures.told told in
+    let e : FileError = c.in_err-grid.field-0.0 in
+    let is : c.from_residual-in_err-grid.result ≡ Err e = search rules in
+    subst (Gives (λ d. d) (design_of files c.args.inputs.now) (IsReached files c.args.inputs.now)) (sym is)
+    (grid_refused files _ files files files inputs c.args.inputs.now c.inputs.view_is c.in_ok-config.config c.config.inside.device (c.in_ok-config.ensures.answer told) c.in_ok-config.ensures.content (ap (λ (k : Config). k.device) c.config.view_is) e (c.in_err-grid.ensures.answer told_config))
+
+pub returns-in_err-profile-clause-answer : goal.returns-in_err-profile-clause-answer
+returns-in_err-profile-clause-answer g c = λ told.
+    let files : Files = g.F.Files.file c.args.files.now in
+    let inputs : Inputs = record { family = c.inputs.inside.family.now; profile = c.inputs.inside.profile.now; side = c.inputs.inside.side.now; config = c.inputs.inside.config.now } in
+    let told_config = c.in_ok-config.ensures.told told in
+    let told_grid = c.in_ok-grid.ensures.told told_config in
+    let e : FileError = c.in_err-profile.field-0.0 in
+    let is : c.from_residual-in_err-profile.result ≡ Err e = search rules in
+    subst (Gives (λ d. d) (design_of files c.args.inputs.now) (IsReached files c.args.inputs.now)) (sym is)
+    (profile_refused files _ _ files files inputs c.args.inputs.now c.inputs.view_is c.in_ok-config.config c.config.inside.device (c.in_ok-config.ensures.answer told) c.in_ok-config.ensures.content (ap (λ (k : Config). k.device) c.config.view_is) c.in_ok-grid.grid (c.in_ok-grid.ensures.answer told_config) c.in_ok-grid.ensures.content e (c.in_err-profile.ensures.answer told_grid))
+
+pub returns-in_err-side-clause-answer : goal.returns-in_err-side-clause-answer
+returns-in_err-side-clause-answer g c = λ told.
+    let files : Files = g.F.Files.file c.args.files.now in
+    let inputs : Inputs = record { family = c.inputs.inside.family.now; profile = c.inputs.inside.profile.now; side = c.inputs.inside.side.now; config = c.inputs.inside.config.now } in
+    let told_config = c.in_ok-config.ensures.told told in
+    let told_grid = c.in_ok-grid.ensures.told told_config in
+    let told_profile = c.in_ok-profile.ensures.told told_grid in
+    let e : FileError = c.in_err-side.field-0.0 in
+    let is : c.from_residual-in_err-side.result ≡ Err e = search rules in
+    subst (Gives (λ d. d) (design_of files c.args.inputs.now) (IsReached files c.args.inputs.now)) (sym is)
+    (side_refused files _ _ _ files inputs c.args.inputs.now c.inputs.view_is c.in_ok-config.config c.config.inside.device (c.in_ok-config.ensures.answer told) c.in_ok-config.ensures.content (ap (λ (k : Config). k.device) c.config.view_is) c.in_ok-grid.grid (c.in_ok-grid.ensures.answer told_config) c.in_ok-grid.ensures.content c.in_ok-profile.profile (c.in_ok-profile.ensures.answer told_grid) c.in_ok-profile.ensures.content e (c.in_err-side.ensures.answer told_profile))
+
+pub returns-in_err-databases-clause-answer : goal.returns-in_err-databases-clause-answer
+returns-in_err-databases-clause-answer g c = λ told.
+    let files : Files = g.F.Files.file c.args.files.now in
+    let inputs : Inputs = record { family = c.inputs.inside.family.now; profile = c.inputs.inside.profile.now; side = c.inputs.inside.side.now; config = c.inputs.inside.config.now } in
+    let told_config = c.in_ok-config.ensures.told told in
+    let told_grid = c.in_ok-grid.ensures.told told_config in
+    let told_profile = c.in_ok-profile.ensures.told told_grid in
+    let told_side = c.in_ok-side.ensures.told told_profile in
+    let e : FileError = c.in_err-databases.field-0.0 in
+    let is : c.from_residual-in_err-databases.result ≡ Err e = search rules in
+    subst (Gives (λ d. d) (design_of files c.args.inputs.now) (IsReached files c.args.inputs.now)) (sym is)
+    (databases_refused files _ _ _ _ inputs c.args.inputs.now c.inputs.view_is c.in_ok-config.config c.config.inside.device (c.in_ok-config.ensures.answer told) c.in_ok-config.ensures.content (ap (λ (k : Config). k.device) c.config.view_is) c.in_ok-grid.grid (c.in_ok-grid.ensures.answer told_config) c.in_ok-grid.ensures.content c.in_ok-profile.profile (c.in_ok-profile.ensures.answer told_grid) c.in_ok-profile.ensures.content c.in_ok-side.side (c.in_ok-side.ensures.answer told_profile) c.in_ok-side.ensures.content e (c.in_err-databases.ensures.answer told_side))
+
+pub returns-clause-answer : goal.returns-clause-answer
+returns-clause-answer g c = λ told.
+    let files : Files = g.F.Files.file c.args.files.now in
+    let inputs : Inputs = record { family = c.inputs.inside.family.now; profile = c.inputs.inside.profile.now; side = c.inputs.inside.side.now; config = c.inputs.inside.config.now } in
+    let told_config = c.in_ok-config.ensures.told told in
+    let told_grid = c.in_ok-grid.ensures.told told_config in
+    let told_profile = c.in_ok-profile.ensures.told told_grid in
+    let told_side = c.in_ok-side.ensures.told told_profile in
+    read_whole files _ _ _ _ inputs c.args.inputs.now c.inputs.view_is c.in_ok-config.config c.config.inside.device (c.in_ok-config.ensures.answer told) c.in_ok-config.ensures.content (ap (λ (k : Config). k.device) c.config.view_is) c.in_ok-grid.grid (c.in_ok-grid.ensures.answer told_config) c.in_ok-grid.ensures.content c.in_ok-profile.profile (c.in_ok-profile.ensures.answer told_grid) c.in_ok-profile.ensures.content c.in_ok-side.side (c.in_ok-side.ensures.answer told_profile) c.in_ok-side.ensures.content
+    c.in_ok-databases.databases (c.in_ok-databases.ensures.answer told_side)

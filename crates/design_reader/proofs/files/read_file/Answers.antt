@@ -1,0 +1,11 @@
+use Rattle.design_reader.proofs.Steps.{file_gives, file_refused}
+use Rattle.design_reader.proofs.files.read_file.Goals as goal
+
+pub returns-in-Ok-clause-answer : goal.returns-in-Ok-clause-answer
+returns-in-Ok-clause-answer g c = λ told.
+    file_gives c.args.name.now c.args.most (g.R.FileReader.reads c.args.name.now) (g.F.Files.file c.args.files.now c.args.name.now) c.in-Ok.there c.read_there.result
+    (c.in-Ok.ensures.answer told) c.read_there.ensures
+
+pub returns-in-Err-clause-answer : goal.returns-in-Err-clause-answer
+returns-in-Err-clause-answer g c = λ told.
+    file_refused c.args.name.now c.args.most (g.R.FileReader.reads c.args.name.now) (g.F.Files.file c.args.files.now c.args.name.now) c.in-Err.error (c.in-Err.ensures.answer told)
