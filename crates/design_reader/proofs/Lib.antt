@@ -6,3 +6,4 @@ pub mod InOrder
 pub mod Rising
 pub mod InTurn
 pub mod Designs
+pub mod ReadForms

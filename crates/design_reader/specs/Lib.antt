@@ -1,3 +1,4 @@
 pub mod Errors
 pub mod Answers
 pub mod Reached
+pub mod Forms

@@ -1,10 +1,11 @@
 //! The databases of tile types, each read once.
 
-ghost use Rattle.std.specs.Prelude.{◌≡◌, ◌∷◌, [], ◌++◌, map, OnOk};
+ghost use Rattle.std.specs.Prelude.{◌≡◌, ◌∷◌, [], ◌++◌, map, IfOk, OnOk};
 ghost use Rattle.design_files.specs.Designs as designs;
 ghost use Rattle.design_files.specs.Names as names;
 ghost use Rattle.design_reader.specs.Answers.{Gives};
 ghost use Rattle.design_reader.specs.Errors.{ReadCounts};
+ghost use Rattle.design_reader.specs.Forms.{AreReadDatabases};
 ghost use Rattle.design_reader.specs.Reached.{IsDatabaseReached};
 ghost use Rattle.fabric.specs.InOrder.{IsRising};
 ghost use Rattle.fabric.specs.Wires.{name_cmp};
@@ -40,6 +41,7 @@ fn read_each<F: Files>(
     ensures content { F.file files.new ≡ F.file files.old }
     ensures answer { F.told files.old → let names = map (λ kind. kind.now) kinds.now in
         Gives (λ databases. databases) (designs.databases_in (F.file files.old) family.now names) (IsDatabaseReached (F.file files.old) family.now names) result }
+    ensures form { IfOk result AreReadDatabases }
     ensures reads { ReadCounts result (F.read_faults files.old) (F.read_faults files.new) }
     ensures writes { F.write_faults files.new ≡ F.write_faults files.old }
 {
@@ -62,6 +64,7 @@ pub(crate) fn read_databases<F: Files>(
     ensures content { F.file files.new ≡ F.file files.old }
     ensures answer { F.told files.old → let kinds = names.types_of grid.now in
         Gives (λ databases. databases) (designs.databases_in (F.file files.old) family.now kinds) (IsDatabaseReached (F.file files.old) family.now kinds) result }
+    ensures form { IfOk result AreReadDatabases }
     ensures reads { ReadCounts result (F.read_faults files.old) (F.read_faults files.new) }
     ensures writes { F.write_faults files.new ≡ F.write_faults files.old }
 {

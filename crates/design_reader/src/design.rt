@@ -1,9 +1,11 @@
 //! A design from its files.
 
-ghost use Rattle.std.specs.Prelude.{◌≡◌};
+ghost use Rattle.std.specs.Prelude.{◌≡◌, IfOk};
 ghost use Rattle.design_files.specs.Designs.{design_of};
 ghost use Rattle.design_reader.specs.Answers.{Gives};
 ghost use Rattle.design_reader.specs.Errors.{ReadCounts};
+ghost use Rattle.formed_laws.specs.DatabaseRead.{IsReadDevice};
+ghost use Rattle.formed_laws.specs.Readers.{IsReadSide};
 ghost use Rattle.run_ends.specs.Reads.{IsReached};
 
 use crate::FileError;
@@ -13,7 +15,7 @@ use crate::readers::{ConfigFile, ProfileFile, SideFile};
 use cell_profile::Profile;
 use command_words::Inputs;
 use config_text::Config;
-use device_names::Databases;
+use device_names::{Databases, Device};
 use outside::Files;
 use side_file::Side;
 use std::alloc::Global;
@@ -39,6 +41,19 @@ impl Model for ReadDesign {
     ghost view = { λ d. record { config = d.config; device = record { grid = d.grid; types = d.databases; profile = d.profile }; side = d.side } };
 }
 
+impl ReadDesign {
+    /// The device that the design names.
+    pub fn device(&self) -> Device<'_>
+        ensures { result ≡ self.now.device }
+    {
+        Device {
+            grid: &self.grid,
+            databases: &self.databases,
+            profile: &self.profile,
+        }
+    }
+}
+
 /// The design of the inputs: reads the configuration, the grid of the device that it names, the profile, the side file, and
 /// the databases of the grid's tile types, each file once. The first file that is missing, too long or faulty is refused.
 pub fn read_design<F: Files>(
@@ -51,6 +66,10 @@ pub fn read_design<F: Files>(
 
     // The design of the files; or its refusal; or the name of a file whose read failed, to which a run comes.
     ensures answer { F.told files.old → Gives (λ design. design) (design_of (F.file files.old) inputs.now) (IsReached (F.file files.old) inputs.now) result }
+
+    // Whatever files tell, what is read was read from some bytes.
+    ensures device { IfOk result (λ design. IsReadDevice design.device) }
+    ensures side { IfOk result (λ design. IsReadSide design.side) }
 
     // A failed read is told only where one failed, and none is swallowed.
     ensures reads { ReadCounts result (F.read_faults files.old) (F.read_faults files.new) }

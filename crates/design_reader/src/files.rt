@@ -1,12 +1,15 @@
 //! One file: its bytes where it is there and short enough, and what they are read as.
 
-ghost use Rattle.std.specs.Prelude.{◌≡◌};
+ghost use Rattle.std.specs.Prelude.{◌≡◌, IfOk};
 ghost use Rattle.answers.specs.Refusals as refusals;
 ghost use Rattle.design_files.specs.Designs as designs;
 ghost use Rattle.design_files.specs.Names as names;
 ghost use Rattle.design_files.specs.Parsed.{parsed, read_grid as read_grid_of};
 ghost use Rattle.design_reader.specs.Answers.{bytes_view, Gives, if_there, IsName, NoName, records_there, short_file};
 ghost use Rattle.design_reader.specs.Errors.{ReadCounts, Tells};
+ghost use Rattle.design_reader.specs.Forms.{IsReadAs};
+ghost use Rattle.formed_laws.specs.DatabaseRead.{IsReadDatabase};
+ghost use Rattle.formed_laws.specs.Readers.{IsReadGrid};
 ghost use Rattle.records.specs.Limits.{most_json_bytes};
 
 use crate::FileError;
@@ -91,6 +94,7 @@ pub(crate) fn read_file<R: FileReader, F: Files>(
     ensures told { F.told files.old → F.told files.new }
     ensures content { F.file files.new ≡ F.file files.old }
     ensures answer { F.told files.old → Gives (λ value. value) (parsed name.now most (R.reads name.now) (F.file files.old name.now)) (IsName name.now) result }
+    ensures form { IfOk result (IsReadAs (R.reads name.now)) }
     ensures reads { ReadCounts result (F.read_faults files.old) (F.read_faults files.new) }
     ensures writes { F.write_faults files.new ≡ F.write_faults files.old }
 {
@@ -111,6 +115,7 @@ pub(crate) fn read_grid<F: Files>(
     ensures content { F.file files.new ≡ F.file files.old }
     ensures answer { F.told files.old → let name = names.grid_name family.now device.now in
         Gives (λ grid. grid) (parsed name most_json_bytes (read_grid_of name) (F.file files.old name)) (IsName name) result }
+    ensures form { IfOk result IsReadGrid }
     ensures reads { ReadCounts result (F.read_faults files.old) (F.read_faults files.new) }
     ensures writes { F.write_faults files.new ≡ F.write_faults files.old }
 {
@@ -146,6 +151,7 @@ fn database_in<F: Files>(alloc: Global, files: &mut F, name: &str) -> Result<Til
     ensures told { F.told files.old → F.told files.new }
     ensures content { F.file files.new ≡ F.file files.old }
     ensures answer { F.told files.old → Gives (λ database. database) (designs.database_in name.now (F.file files.old name.now)) (IsName name.now) result }
+    ensures form { IfOk result IsReadDatabase }
     ensures reads { ReadCounts result (F.read_faults files.old) (F.read_faults files.new) }
     ensures writes { F.write_faults files.new ≡ F.write_faults files.old }
 {
@@ -166,6 +172,7 @@ pub(crate) fn read_database<F: Files>(
     ensures content { F.file files.new ≡ F.file files.old }
     ensures answer { F.told files.old → let name = names.database_name family.now kind.now in
         Gives (λ database. database) (designs.database_in name (F.file files.old name)) (IsName name) result }
+    ensures form { IfOk result IsReadDatabase }
     ensures reads { ReadCounts result (F.read_faults files.old) (F.read_faults files.new) }
     ensures writes { F.write_faults files.new ≡ F.write_faults files.old }
 {

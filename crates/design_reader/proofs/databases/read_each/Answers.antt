@@ -12,6 +12,7 @@ use Rattle.design_reader.specs.declared.errors.FileError.{FileError}
 use Rattle.design_reader.specs.Answers.{Gives, Refuses, IsName}
 use Rattle.design_reader.specs.Reached.{IsDatabaseReached}
 use Rattle.design_reader.proofs.InTurn.{names_more, names_split, rises_so_far, kinds_more, of_kind, one_more, next_refuses}
+use Rattle.design_reader.proofs.ReadForms.{more_read}
 use Rattle.design_reader.proofs.databases.read_each.Goals as goal
 
 pub loop-kind-preserved : goal.loop-kind-preserved
@@ -34,6 +35,7 @@ loop-kind-preserved g c =
           ap (databases_in files family) more
           ∙ one_more files family (take i (map (λ k. k.now) kinds)) kind.now types db (kept.read t) here
           ∙ ap (λ (ts : List TypeDb). let r : Result (List TypeDb) Refusal = Ok ts in r) (sym c.in_ok-add.ensures);
+      form = more_read types _ (record { kind = kind.now; db = db }) c.in_ok-add.ensures kept.form c.in_ok-database.ensures.form;
       kinds =
           ap (λ (ts : List TypeDb). map (λ u. u.kind) ts) c.in_ok-add.ensures
           ∙ kinds_more types (record { kind = kind.now; db = db }) (take i (map (λ k. k.now) kinds)) (take (i + 1) (map (λ k. k.now) kinds)) kept.kinds more;

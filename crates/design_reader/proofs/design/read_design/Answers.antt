@@ -2,11 +2,14 @@ use Rattle.std.proofs.Common.{◌≡◌, ℕ, List, refl, sym, ap, subst, ◌∙
 use Rattle.std.specs.Prelude.{Ok, Err}
 use Rattle.records.specs.Config.{Config}
 use Rattle.commands.specs.Commands.{Inputs}
-use Rattle.design_files.specs.Parsed.{Files}
+use Rattle.design_files.specs.Parsed.{Files, form_refusal, side_refusal}
 use Rattle.design_files.specs.Designs.{design_of}
 use Rattle.run_ends.specs.Reads.{IsReached}
 use Rattle.design_reader.specs.declared.errors.FileError.{FileError}
 use Rattle.design_reader.specs.Answers.{Gives}
+use Rattle.json_forms.specs.Profile.{profile_of}
+use Rattle.side_form.specs.Side.{side_of}
+use Rattle.design_reader.proofs.ReadForms.{not_refused}
 use Rattle.design_reader.proofs.Designs.{config_refused, grid_refused, profile_refused, side_refused, databases_refused, read_whole}
 use Rattle.design_reader.proofs.design.read_design.Goals as goal
 
@@ -75,3 +78,17 @@ returns-clause-answer g c = λ told.
     let told_side = c.in_ok-side.ensures.told told_profile in
     read_whole files _ _ _ _ inputs c.args.inputs.now c.inputs.view_is c.in_ok-config.config c.config.inside.device (c.in_ok-config.ensures.answer told) c.in_ok-config.ensures.content (ap (λ (k : Config). k.device) c.config.view_is) c.in_ok-grid.grid (c.in_ok-grid.ensures.answer told_config) c.in_ok-grid.ensures.content c.in_ok-profile.profile (c.in_ok-profile.ensures.answer told_grid) c.in_ok-profile.ensures.content c.in_ok-side.side (c.in_ok-side.ensures.answer told_profile) c.in_ok-side.ensures.content
     c.in_ok-databases.databases (c.in_ok-databases.ensures.answer told_side)
+
+pub returns-clause-device : goal.returns-clause-device
+returns-clause-device g c =
+    let read = c.in_ok-profile.ensures.form in
+    record {
+      grid = c.in_ok-grid.ensures.form;
+      types = c.in_ok-databases.ensures.form;
+      profile = (read.0, not_refused (form_refusal c.inputs.inside.profile.now) (profile_of read.0) c.in_ok-profile.profile read.1);
+    }
+
+pub returns-clause-side : goal.returns-clause-side
+returns-clause-side g c =
+    let read = c.in_ok-side.ensures.form in
+    (read.0, not_refused (side_refusal c.inputs.inside.side.now) (side_of read.0) c.in_ok-side.side read.1)
