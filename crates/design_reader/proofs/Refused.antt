@@ -43,6 +43,12 @@ counts_kept view expected (Err (Refused text)) before now t h = h
 counts_kept view expected (Err (Unread text)) before now t h = absurd t.reached
 counts_kept view expected (Err Memory) before now t h = omega arith
 
+-- readings without a failed read, and behind them an error
+pub counts_behind : {X : Type 0} (result : Result X FileError) (e : FileError) (middle before now : ℕ) → result ≡ Err e → middle ≡ before → ErrorCounts e middle now
+    → ReadCounts result before now
+counts_behind {X} result e middle before now is kept h =
+    subst (λ (r : Result X FileError). ReadCounts r before now) (sym is) (subst (λ n. ErrorCounts e n now) kept h)
+
 -- ---- readers
 
 pub read_well : {X F : Type 0} (expected : Result X F) (refusal : F → Refusal) (x : X) → expected ≡ Ok x → or_refused refusal expected ≡ Ok x

@@ -1,15 +1,17 @@
 use Rattle.std.proofs.Common.{◌≡◌, ℕ, List, refl, sym, ap, subst, ◌∙◌, rules}
-use Rattle.std.specs.Prelude.{Ok, Err}
+use Rattle.std.specs.Prelude.{Result, Ok, Err}
+use Rattle.std.proofs.lemmas.Result.{err_from_is_err_and}
 use Rattle.records.specs.Config.{Config}
 use Rattle.commands.specs.Commands.{Inputs}
 use Rattle.design_files.specs.Parsed.{Files, form_refusal, side_refusal}
-use Rattle.design_files.specs.Designs.{design_of}
+use Rattle.design_files.specs.Designs.{Design, design_of}
 use Rattle.run_ends.specs.Reads.{IsReached}
 use Rattle.design_reader.specs.declared.errors.FileError.{FileError}
 use Rattle.design_reader.specs.Answers.{Gives}
 use Rattle.json_forms.specs.Profile.{profile_of}
 use Rattle.side_form.specs.Side.{side_of}
 use Rattle.design_reader.proofs.ReadForms.{not_refused}
+use Rattle.design_reader.proofs.Refused.{counts_behind}
 use Rattle.design_reader.proofs.Designs.{config_refused, grid_refused, profile_refused, side_refused, databases_refused, read_whole}
 use Rattle.design_reader.proofs.design.read_design.Goals as goal
 
@@ -64,9 +66,18 @@ returns-in_err-databases-clause-answer g c = λ told.
     let told_profile = c.in_ok-profile.ensures.told told_grid in
     let told_side = c.in_ok-side.ensures.told told_profile in
     let e : FileError = c.in_err-databases.field-0.0 in
-    let is : c.from_residual-in_err-databases.result ≡ Err e = search rules in
+    let p = err_from_is_err_and c.from_residual-in_err-databases.result c.from_residual-in_err-databases.ensures.1 in
+    let is : c.from_residual-in_err-databases.result ≡ Err e = p.1 ∙ ap (λ (y : FileError). let r : Result Design FileError = Err y in r) p.2 in
     subst (Gives (λ d. d) (design_of files c.args.inputs.now) (IsReached files c.args.inputs.now)) (sym is)
     (databases_refused files _ _ _ _ inputs c.args.inputs.now c.inputs.view_is c.in_ok-config.config c.config.inside.device (c.in_ok-config.ensures.answer told) c.in_ok-config.ensures.content (ap (λ (k : Config). k.device) c.config.view_is) c.in_ok-grid.grid (c.in_ok-grid.ensures.answer told_config) c.in_ok-grid.ensures.content c.in_ok-profile.profile (c.in_ok-profile.ensures.answer told_grid) c.in_ok-profile.ensures.content c.in_ok-side.side (c.in_ok-side.ensures.answer told_profile) c.in_ok-side.ensures.content e (c.in_err-databases.ensures.answer told_side))
+
+pub returns-in_err-databases-clause-reads : goal.returns-in_err-databases-clause-reads
+returns-in_err-databases-clause-reads g c =
+    let e : FileError = c.in_err-databases.field-0.0 in
+    let p = err_from_is_err_and c.from_residual-in_err-databases.result c.from_residual-in_err-databases.ensures.1 in
+    let is : c.from_residual-in_err-databases.result ≡ Err e = p.1 ∙ ap (λ (y : FileError). let r : Result Design FileError = Err y in r) p.2 in
+    counts_behind c.from_residual-in_err-databases.result e _ (g.F.Files.read_faults c.args.files.now) _ is
+    (c.in_ok-side.ensures.reads ∙ c.in_ok-profile.ensures.reads ∙ c.in_ok-grid.ensures.reads ∙ c.in_ok-config.ensures.reads) c.in_err-databases.ensures.reads
 
 pub returns-clause-answer : goal.returns-clause-answer
 returns-clause-answer g c = λ told.
