@@ -1,6 +1,6 @@
 -- The files of a design, one after the other.
 use Rattle.std.proofs.Common.{◌≡◌, ℕ, List, refl, sym, ap, subst, ◌∙◌}
-use Rattle.std.specs.Prelude.{Result, Ok, Err}
+use Rattle.std.specs.Prelude.{Result, Ok}
 use Rattle.json_forms.specs.Results.{◌>>=◌}
 use Rattle.records.specs.Grid.{Grid}
 use Rattle.records.specs.Profile.{Profile}
@@ -9,12 +9,12 @@ use Rattle.records.specs.Config.{Config}
 use Rattle.fabric.specs.Device.{TypeDb}
 use Rattle.answers.specs.Refusals.{Refusal}
 use Rattle.commands.specs.Commands.{Inputs}
-use Rattle.design_files.specs.Names.{grid_name, database_name, types_of}
+use Rattle.design_files.specs.Names.{grid_name, types_of}
 use Rattle.design_files.specs.Parsed.{Files}
 use Rattle.design_files.specs.Designs.{Design, config_in, grid_in, profile_in, side_file_in, databases_in, design_of}
 use Rattle.run_ends.specs.Reads.{IsReached, the_config, the_grid, the_profile, the_side, a_database}
 use Rattle.design_reader.specs.declared.errors.FileError.{FileError}
-use Rattle.design_reader.specs.Answers.{Refuses, Gives, IsName}
+use Rattle.design_reader.specs.Answers.{Refuses, IsName}
 use Rattle.design_reader.specs.Reached.{IsDatabaseReached}
 use Rattle.design_reader.proofs.Steps.{refuses_as, first_refuses}
 

@@ -2,15 +2,12 @@
 use Rattle.std.proofs.Common.{◌≡◌, ℕ, List, [], ◌∷◌, ◌++◌, map, nat_cmp, refl, sym, ap, ◌∙◌}
 use Rattle.std.specs.declared.cmp.Ordering.{Ordering}
 use Rattle.std.specs.declared.cmp.Ordering.TheVariants.{Less, Equal, Greater}
-use Rattle.std.specs.Ordering.{match_ordering, is_eq}
+use Rattle.std.specs.Ordering.{match_ordering}
 use Rattle.std.specs.BTreeSet.{insert_key}
 use Rattle.std.specs.Cmp.Lexicographic.{slice_cmp}
 use denote.Ref.{Bor}
-use Rattle.words.specs.Members.{In}
 use Rattle.words.specs.Ordered.{put_once, in_order_once}
 use Rattle.records.specs.Grid.{Tile}
-use Rattle.fabric.specs.Wires.{name_cmp}
-use Rattle.fabric.specs.InOrder.{IsRising}
 use Rattle.fabric_laws.proofs.Orders.{name_same}
 
 -- the types of tiles, put in their places among others, from the last to the first

@@ -13,9 +13,8 @@ use Rattle.answers.specs.Refusals.{Refusal}
 use Rattle.design_files.specs.Names.{database_name}
 use Rattle.design_files.specs.Parsed.{Files}
 use Rattle.design_files.specs.Designs.{database_in, databases_in}
-use Rattle.run_ends.specs.Reads.{IsNextDatabase}
 use Rattle.design_reader.specs.declared.errors.FileError.{FileError}
-use Rattle.design_reader.specs.Answers.{Refuses, Gives, IsName}
+use Rattle.design_reader.specs.Answers.{Refuses, IsName}
 use Rattle.design_reader.specs.Reached.{IsDatabaseReached}
 use Rattle.design_reader.proofs.Rising.{map-push}
 use Rattle.design_reader.proofs.Steps.{first_refuses, refuses_as}

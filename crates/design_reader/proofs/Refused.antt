@@ -7,7 +7,7 @@ use Rattle.design_files.specs.Parsed.{or_refused}
 use Rattle.design_reader.specs.declared.errors.FileError.{FileError}
 use Rattle.design_reader.specs.declared.errors.FileError.TheVariants.{Refused, Unread, Memory}
 use Rattle.design_reader.specs.Errors.{Tells, TellsUnread, StandsFor, ErrorCounts, ReadCounts}
-use Rattle.design_reader.specs.Answers.{IsRefusedText, IsUnreadText, Refuses, Gives, IsName, NoName}
+use Rattle.design_reader.specs.Answers.{Refuses, Gives, IsName, NoName}
 
 -- ---- errors that tell something
 

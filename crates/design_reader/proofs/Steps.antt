@@ -11,7 +11,7 @@ use Rattle.design_files.specs.Parsed.{parsed, read_database}
 use Rattle.design_files.specs.Designs.{database_in}
 use Rattle.design_reader.specs.declared.errors.FileError.{FileError}
 use Rattle.design_reader.specs.declared.errors.FileError.TheVariants.{Refused, Unread, Memory}
-use Rattle.design_reader.specs.Answers.{IsRefusedText, IsUnreadText, Refuses, Gives, IsName, NoName, short_file, if_there, records_there, bytes_view}
+use Rattle.design_reader.specs.Answers.{Refuses, Gives, IsName, NoName, short_file, if_there, records_there, bytes_view}
 
 -- the same of an equal expectation, and of more files
 pub refuses_as : {Y : Type 0} (expected other : Result Y Refusal) (Reached Wider : List ℕ → Type 0) (e : FileError) → other ≡ expected → ((n : List ℕ) → Reached n → Wider n)

@@ -1,4 +1,4 @@
-use Rattle.std.proofs.Common.{◌≡◌, ◌++◌, ◌∷◌, [], ℕ, List, map, ap, rules}
+use Rattle.std.proofs.Common.{◌≡◌, ◌++◌, ◌∷◌, [], map, ap, rules}
 use Rattle.records.specs.Grid.{Tile}
 use Rattle.words.specs.Ordered.{in_order_once}
 use Rattle.design_reader.proofs.InOrder.{put_last}
