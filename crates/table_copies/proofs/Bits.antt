@@ -14,7 +14,7 @@ pub length_digits : (n a : ℕ) → length (digits_of n a) ≡ n
 length_digits zero a = refl
 length_digits (suc n) a = ap suc (length_digits n a)
 
-past : {X : Type 0} (xs : List X) (i : ℕ) (d : X) → length xs ≤ i → d ≡ get_or xs i d
+pub past : {X : Type 0} (xs : List X) (i : ℕ) (d : X) → length xs ≤ i → d ≡ get_or xs i d
 past [] i d h = refl
 past (x ∷ xs) zero d h = absurd (omega arith)
 past (x ∷ xs) (suc i) d h = past xs i d (omega arith)

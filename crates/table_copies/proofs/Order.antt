@@ -1,5 +1,5 @@
 -- The order of parts is total, and insertion in it.
-use Rattle.std.proofs.Common.{◌≡◌, ◌≢◌, ℕ, zero, suc, ◌+◌, ◌<◌, ◌≤◌, List, [], ◌∷◌, ◌++◌, length, map, take, drop, None, Some, ◌⊎◌, inl, inr, refl, sym, ap, subst, ◌∙◌, arith}
+use Rattle.std.proofs.Common.{◌≡◌, ◌≢◌, ℕ, zero, suc, ◌+◌, ◌<◌, ◌≤◌, List, [], ◌∷◌, ◌++◌, length, map, get_or, None, Some, option_map, ◌⊎◌, inl, inr, refl, sym, ap, subst, ◌∙◌, arith}
 use Rattle.std.specs.Prelude.{slice_get, insert}
 use Rattle.std.specs.declared.cmp.Ordering.{Ordering}
 use Rattle.std.specs.declared.cmp.Ordering.TheVariants.{Less, Equal, Greater}
@@ -7,7 +7,7 @@ use Rattle.std.specs.Ordering.{nat_cmp, ordering_then, ordering_reverse, match_o
 use Rattle.std.specs.Cmp.{IsTotalOrder, nat_cmp_total, on_total, then_total}
 use Rattle.std.specs.Cmp.Lexicographic.{nat_list_cmp_total}
 use Rattle.std.specs.FinMap.{nat_cmp-IsAntisymmetric}
-use Rattle.std.proofs.lemmas.Option.{none-some, same_Some, slice_get_past}
+use Rattle.std.proofs.lemmas.Option.{none-some, same_Some, slice_get-map, slice_get_past, slice_get_read}
 use Rattle.words.specs.Members.{In}
 use Rattle.links.proofs.Members.{same_number}
 use Rattle.fabric.specs.Wires.{name_cmp}
@@ -115,3 +115,7 @@ after_more ps p q i at more after j x below there = elim (split j i below) [
 
 pub nothing_past : (ps : List PartRef) (p : PartRef) (i : ℕ) → length ps ≤ i → (q : PartRef) → slice_get ps i ≡ Some q → part_cmp p q ≡ Less
 nothing_past ps p i h q there = absurd (none-some q (sym (slice_get_past ps i h) ∙ there))
+
+-- the part at a place
+pub there : (xs : List Source) (i : ℕ) (x : Source) → i < length xs → x ≡ get_or xs i x → slice_get (map (λ s. s.part) xs) i ≡ Some x.part
+there xs i x below is = slice_get-map (λ (s : Source). s.part) xs i ∙ ap (option_map (λ (s : Source). s.part)) (slice_get_read xs (length xs) i x refl below is)
