@@ -122,16 +122,16 @@ module _ (c : Circuit) (feeds : List (Option ℕ)) (tells : Tells c feeds) (refs
     small_pin i below = (let most = few in omega arith)
 
     value_by : (x : Pin → Bool) → Assigned c bits s t x → OpenAreZero c s t x → (i : ℕ) → i < length t.pins → (o : Option Source) → fed_by all row i ≡ o → x (pin i) ≡ bit i
-    value_by x given open i below None e =
-        open (pin i) (pin_in c feeds tells k s t at is i below) (row_open c feeds tells k s t at is i below e) ∙ sym (open_bit i (small_pin i below) e)
-    value_by x given open i below (Some a) e =
+    value_by x given zeroed i below None e =
+        zeroed (pin i) (pin_in c feeds tells k s t at is i below) (row_open c feeds tells k s t at is i below e) ∙ sym (open_bit i (small_pin i below) e)
+    value_by x given zeroed i below (Some a) e =
         let cn = connects_at c feeds tells k s t at is i a below e in
         given (pin i) a (pin_in c feeds tells k s t at is i below) cn ∙ sym (fed_bit i a below (small_pin i below) cn.source e)
 
     past_row : (i : ℕ) → length t.pins ≤ i → fed_by all row i ≡ None
     past_row i over = ap (option_and_then (slice_get all)) (sym (past row i None (let long = row_long c feeds tells k s t at is in omega arith)))
 
-    module _ (x : Pin → Bool) (given : Assigned c bits s t x) (open : OpenAreZero c s t x) where
+    module _ (x : Pin → Bool) (given : Assigned c bits s t x) (zeroed : OpenAreZero c s t x) where
       abbrev values : List Bool
       values = map x (table_pins s.part t)
 
@@ -139,7 +139,7 @@ module _ (c : Circuit) (feeds : List (Option ℕ)) (tells : Tells c feeds) (refs
       many = length_numbered s.part 0 t.pins x
 
       same_bit : (i : ℕ) → i < 4 → (i < length t.pins) ⊎ (length t.pins ≤ i) → get_or (bits_at digits pins) i false ≡ get_or values i false
-      same_bit i small (inl below) = bits_are digits pins i ∙ (sym (value_by x given open i below (fed_by all row i) refl) ∙ sym (bit_numbered s.part 0 t.pins x i below))
+      same_bit i small (inl below) = bits_are digits pins i ∙ (sym (value_by x given zeroed i below (fed_by all row i) refl) ∙ sym (bit_numbered s.part 0 t.pins x i below))
       same_bit i small (inr over) = bits_are digits pins i ∙ (open_bit i small (past_row i over) ∙ past values i false (let m = many in omega arith))
 
       either : (i n : ℕ) → (i < n) ⊎ (n ≤ i)
@@ -148,7 +148,7 @@ module _ (c : Circuit) (feeds : List (Option ℕ)) (tells : Tells c feeds) (refs
       either (suc i) (suc n) = elim (either i n) [ inl h ↦ inl (omega arith) | inr h ↦ inr (omega arith) ]
 
       small_address : address values < 2 ^ 4
-      small_address = (let m = many in let f = few in let below = address_below values in let most : 2 ^ length values ≤ 2 ^ 4 = pow-le-pow_right (omega arith) (omega arith) in omega arith)
+      small_address = (let m = many in let f = few in let below = address_below values in let short : length values ≤ 4 = omega arith in let most : 2 ^ length values ≤ 2 ^ 4 = pow-le-pow_right (let two : 0 < 2 = omega arith in two) short in omega arith)
 
       same_addresses : address (bits_at digits pins) ≡ address values
       same_addresses = same_address (address values) (bits_at digits pins) small_address (λ i small. same_bit i small (either i (length t.pins)) ∙ sym (set_address values i))

@@ -89,8 +89,8 @@ module _ (c : Circuit) (feeds numbers : List (Option ℕ)) (read : List Bool) (s
       is_read = flagged_read c.cells feeds numbers read c shows k s w.numbered flag
 
       word_at : (x : Pin → Bool) → Assigned c bits s t x → OpenAreZero c s t x → table_output s.part t x ≡ is_set word (address (bits_at digits pins))
-      word_at x given open =
-          output_is c feeds tells refs rising feeders firsts real bits digits assigned k s t w.numbered w.is_table pins own_pins own_reaches x given open ∙ ap (λ n. is_set n (address (bits_at digits pins))) w.is
+      word_at x given zeroed =
+          output_is c feeds tells refs rising feeders firsts real bits digits assigned k s t w.numbered w.is_table pins own_pins own_reaches x given zeroed ∙ ap (λ n. is_set n (address (bits_at digits pins))) w.is
 
       abbrev x : Pin → Bool
       x = chosen c feeds tells refs rising feeders firsts real bits digits assigned k s t w.numbered w.is_table pins own_pins own_reaches
@@ -98,19 +98,19 @@ module _ (c : Circuit) (feeds numbers : List (Option ℕ)) (read : List Bool) (s
       read_gives : Gives c bits part (given_by digits (Read word pins))
       read_gives =
           let given = chosen_given c feeds tells refs rising feeders firsts real bits digits assigned k s t w.numbered w.is_table pins own_pins own_reaches in
-          let open = chosen_open c feeds tells refs rising feeders firsts real bits digits assigned k s t w.numbered w.is_table pins own_pins own_reaches in
-          subst (λ b. Gives c bits part (if b then codes "1" else codes "0")) (word_at x given open) (output s t x own_part (record { listed = listed; read = is_read }) w.is_table given open)
+          let zeroed = chosen_open c feeds tells refs rising feeders firsts real bits digits assigned k s t w.numbered w.is_table pins own_pins own_reaches in
+          subst (λ b. Gives c bits part (if b then codes "1" else codes "0")) (word_at x given zeroed) (output s t x own_part (record { listed = listed; read = is_read }) w.is_table given zeroed)
 
       of_table : (v : TableCell) → t ≡ v → (y : Pin → Bool) → Assigned c bits s v y → OpenAreZero c s v y → table_output s.part v y ≡ is_set word (address (bits_at digits pins))
       of_table v same = subst (λ (z : TableCell). (y : Pin → Bool) → Assigned c bits s z y → OpenAreZero c s z y → table_output s.part z y ≡ is_set word (address (bits_at digits pins))) same word_at
 
       of_source : (u : Source) → s ≡ u → (v : TableCell) (y : Pin → Bool) → u.kind ≡ OfTable v → Assigned c bits u v y → OpenAreZero c u v y → table_output u.part v y ≡ is_set word (address (bits_at digits pins))
       of_source u same = subst (λ (z : Source). (v : TableCell) (y : Pin → Bool) → z.kind ≡ OfTable v → Assigned c bits z v y → OpenAreZero c z v y → table_output z.part v y ≡ is_set word (address (bits_at digits pins))) same
-          (λ v y kind given open. of_table v (table_path s.kind t v w.is_table kind) y given open)
+          (λ v y kind given zeroed. of_table v (table_path s.kind t v w.is_table kind) y given zeroed)
 
       read_is : (p : PartRef) (text : List ℕ) → part ≡ p → Gives c bits p text → text ≡ given_by digits (Read word pins)
-      read_is p _ e (output u v y f ru kind given open) =
-          ap (λ b. if b then codes "1" else codes "0") (of_source u (part_same c.cells tells.formed.names s u listed ru.listed (own_part ∙ (e ∙ sym f))) v y kind given open)
+      read_is p _ e (output u v y f ru kind given zeroed) =
+          ap (λ b. if b then codes "1" else codes "0") (of_source u (part_same c.cells tells.formed.names s u listed ru.listed (own_part ∙ (e ∙ sym f))) v y kind given zeroed)
       read_is p _ e (unread none) = absurd (none s listed (own_part ∙ e) is_read)
 
     -- ---- any copy
@@ -121,7 +121,7 @@ module _ (c : Circuit) (feeds numbers : List (Option ℕ)) (read : List Bool) (s
     copy_gives (Some k) row (Read word pins) numbered is reaches told = read_gives k word pins row numbered is told.0.0 told.0.1 told.1 reaches
 
     unread_is : (o : Option ℕ) → IsPartNumber all part o → IsReadWord all read o None → (p : PartRef) (text : List ℕ) → part ≡ p → Gives c bits p text → text ≡ codes "-"
-    unread_is o numbered told p _ e (output u v y f ru kind given open) = absurd (unread_copy o numbered told u ru.listed (f ∙ sym e) ru.read)
+    unread_is o numbered told p _ e (output u v y f ru kind given zeroed) = absurd (unread_copy o numbered told u ru.listed (f ∙ sym e) ru.read)
     unread_is o numbered told p _ e (unread none) = refl
 
     pub copy_is : (o : Option ℕ) (row : List (Option ℕ)) (copy : TableCopy) → IsPartNumber all part o → IsRow c.cells feeds o row → Reaches row → IsCopy c.side all refs read row o copy → (text : List ℕ) → Gives c bits part text
