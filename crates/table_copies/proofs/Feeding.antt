@@ -1,17 +1,16 @@
 -- What feeds a copy of a table, by what a program has of its pins.
-use Rattle.std.proofs.Common.{◌≡◌, ℕ, ◌+◌, ◌<◌, ◌≤◌, List, [], ◌∷◌, length, get_or, Option, None, Some, option_map, option_and_then, inl, inr, refl, sym, ap, subst, ◌∙◌, arith}
+use Rattle.std.proofs.Common.{◌≡◌, ℕ, ◌+◌, ◌<◌, ◌≤◌, List, length, get_or, Option, None, Some, option_map, option_and_then, refl, sym, ap, subst, ◌∙◌, arith}
 use Rattle.std.specs.Prelude.{slice_get, slice_range}
 use Rattle.std.proofs.lemmas.Option.{none-some, same_Some, get_or_from_slice_get, slice_get-get_or, slice_get_within}
 use Rattle.words.specs.Members.{In}
-use Rattle.records.specs.Side.{Triple}
 use Rattle.circuit.specs.Cells.{TableCell}
-use Rattle.circuit.specs.Parts.{PartKind, Table, Register, Pad, PartRef, Kind, OfTable, OfRegister, OfInput, OfClock, Source, sources}
+use Rattle.circuit.specs.Parts.{Table, PartRef, Kind, OfTable, OfRegister, OfInput, OfClock, Source, sources}
 use Rattle.circuit.specs.Pins.{Pin, pin_at, table_pins}
-use Rattle.circuit.specs.Triples.{PartTriple, triple_of, all_triples, IsEntry, triple_with}
+use Rattle.circuit.specs.Triples.{PartTriple, triple_of}
 use Rattle.circuit.specs.Circuits.{Circuit, Connects}
 use Rattle.circuit_laws.proofs.Parts.{Fits, kind_fits, bit_pin_listed, table_bit}
 use Rattle.circuit_laws.proofs.Refs.{part_same}
-use Rattle.circuit_laws.proofs.Sound.{FeedsFrom, at_pin, to_pin}
+use Rattle.circuit_laws.proofs.Sound.{at_pin, to_pin}
 use Rattle.circuit_parts.specs.Flat.{first_pin}
 use Rattle.design_checks.specs.CopyChecks.{first_part, part_in}
 use Rattle.fabric_laws.proofs.Numbered.{get_in, number_there}
@@ -21,7 +20,6 @@ use Rattle.table_masks.specs.Pins.{fed_by}
 use Rattle.table_masks.proofs.Row.{few_pins, row_fed, row_long}
 use Rattle.table_masks.proofs.Tied.{in_numbered, of_numbered}
 use Rattle.part_copies.specs.Numbered.{IsPartNumber}
-use Rattle.table_copies.specs.Firsts.{first_at}
 use Rattle.table_copies.specs.Rows.{IsRow}
 use Rattle.table_copies.proofs.Gathered.{IsFirstIn}
 

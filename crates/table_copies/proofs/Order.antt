@@ -1,5 +1,5 @@
 -- The order of parts is total, and insertion in it.
-use Rattle.std.proofs.Common.{◌≡◌, ◌≢◌, ℕ, zero, suc, ◌+◌, ◌<◌, ◌≤◌, List, [], ◌∷◌, ◌++◌, length, map, get_or, None, Some, option_map, ◌⊎◌, inl, inr, refl, sym, ap, subst, ◌∙◌, arith}
+use Rattle.std.proofs.Common.{◌≡◌, ℕ, zero, suc, ◌+◌, ◌<◌, ◌≤◌, List, [], ◌∷◌, length, map, get_or, Some, option_map, ◌⊎◌, inl, inr, refl, sym, ap, subst, ◌∙◌, arith}
 use Rattle.std.specs.Prelude.{slice_get, insert}
 use Rattle.std.specs.declared.cmp.Ordering.{Ordering}
 use Rattle.std.specs.declared.cmp.Ordering.TheVariants.{Less, Equal, Greater}
@@ -16,9 +16,7 @@ use Rattle.fabric_laws.specs.Insertion.{inserted}
 use Rattle.fabric_laws.proofs.Orders.{first_ties, second_ties, name_same}
 use Rattle.circuit.specs.Parts.{PartKind, Table, Register, Pad, PartRef, Source}
 use Rattle.attempts.specs.PinOrder.{rank_of, number_of, part_cmp}
-use Rattle.table_copies.specs.declared.places.Place.{Place}
-use Rattle.table_copies.specs.declared.places.Place.TheVariants.{At, Before}
-use Rattle.table_copies.specs.Places.{IsAfter, IsPlace}
+use Rattle.table_copies.specs.Places.{IsAfter}
 
 pub part_total : IsTotalOrder part_cmp
 part_total = then_total (on_total (λ p. p.cell) nat_list_cmp_total) (then_total (on_total (λ p. rank_of p.part) nat_cmp_total) (on_total (λ p. number_of p.part) nat_cmp_total))

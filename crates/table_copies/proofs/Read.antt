@@ -1,11 +1,11 @@
 -- What the copies of a table give, by what a program has of them.
-use Rattle.std.proofs.Common.{◌≡◌, ℕ, ◌<◌, Bool, true, false, List, length, map, get_or, Option, None, Some, refl, sym, ap, subst, ◌∙◌}
+use Rattle.std.proofs.Common.{◌≡◌, ℕ, Bool, true, false, List, map, get_or, Option, None, Some, refl, sym, ap, subst, ◌∙◌}
 use Rattle.std.specs.Prelude.{codes, slice_get, if◌then◌else◌}
 use Rattle.std.proofs.lemmas.Option.{none-some, same_Some, slice_get_within}
 use Rattle.words.specs.Members.{In}
 use Rattle.fabric.specs.InOrder.{IsRising}
 use Rattle.circuit.specs.Cells.{TableCell}
-use Rattle.circuit.specs.Parts.{PartRef, Table, Kind, OfTable, Source, sources}
+use Rattle.circuit.specs.Parts.{PartRef, Table, OfTable, Source, sources}
 use Rattle.circuit.specs.Pins.{Pin}
 use Rattle.circuit.specs.Triples.{PartTriple}
 use Rattle.circuit.specs.Circuits.{Circuit, IsRead}

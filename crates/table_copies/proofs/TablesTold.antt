@@ -1,5 +1,5 @@
 -- Whether the tables of a triple give different outputs, by what a program has of them.
-use Rattle.std.proofs.Common.{◌≡◌, ℕ, suc, ◌+◌, ◌^◌, ◌<◌, ◌≤◌, Bool, List, [], ◌∷◌, ◌++◌, length, map, Option, None, Some, ◌⊎◌, inl, inr, refl, sym, ap, ap₂, subst, ◌∙◌, arith}
+use Rattle.std.proofs.Common.{◌≡◌, ℕ, ◌^◌, ◌<◌, ◌≤◌, Bool, List, [], ◌∷◌, length, map, Option, None, Some, inl, inr, refl, sym, ap, ap₂, subst, ◌∙◌, arith}
 use Rattle.std.specs.Prelude.{codes}
 use Rattle.std.specs.Global.{Vec}
 use Rattle.std.specs.Cmp.{on_total}
@@ -14,7 +14,7 @@ use Rattle.circuit.specs.Parts.{PartRef, Table, Source, sources}
 use Rattle.circuit.specs.Triples.{PartTriple, IsEntry}
 use Rattle.circuit.specs.Circuits.{Circuit}
 use Rattle.attempts.specs.PinOrder.{part_cmp}
-use Rattle.design_checks.specs.CopyChecks.{first_part, part_in, FeedsTable, AreFeeders, Gives, TablesDiffer, digits_or_dash}
+use Rattle.design_checks.specs.CopyChecks.{first_part, part_in, FeedsTable, AreFeeders, Gives, TablesDiffer}
 use Rattle.pin_feeds.specs.Told.{Tells}
 use Rattle.part_triples.specs.Numbers.{numbers_of}
 use Rattle.table_masks.specs.Least.{Shows}

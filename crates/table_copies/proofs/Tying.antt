@@ -1,5 +1,5 @@
 -- Triples of parts are told apart by their parts of domain 0, and have bits as a list says.
-use Rattle.std.proofs.Common.{◌≡◌, ℕ, suc, Bool, true, false, bytes_eq, unwrap_or, List, [], ◌∷◌, length, map, ◌⊎◌, inl, inr, refl, sym, ap, ap₂, subst, ◌∙◌, arith}
+use Rattle.std.proofs.Common.{◌≡◌, ℕ, Bool, true, false, bytes_eq, unwrap_or, List, [], ◌∷◌, length, map, ◌⊎◌, inl, inr, refl, sym, ap, ap₂, subst, ◌∙◌, arith}
 use Rattle.std.specs.declared.cmp.Ordering.{Ordering}
 use Rattle.std.specs.declared.cmp.Ordering.TheVariants.{Less, Equal}
 use Rattle.std.proofs.lemmas.Slice.Eq.{bytes_eq-Decides}

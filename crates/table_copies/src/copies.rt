@@ -159,8 +159,32 @@ pub(crate) fn tables_of(
         rows.now.first.now rows.now.second.now rows.now.third.now copies.now result }
 {
     Tables {
-        first: table_copy(parts, triples, side, feeders, read, rows.first, copies.first),
-        second: table_copy(parts, triples, side, feeders, read, rows.second, copies.second),
-        third: table_copy(parts, triples, side, feeders, read, rows.third, copies.third),
+        first: table_copy(
+            parts,
+            triples,
+            side,
+            feeders,
+            read,
+            rows.first,
+            copies.first,
+        ),
+        second: table_copy(
+            parts,
+            triples,
+            side,
+            feeders,
+            read,
+            rows.second,
+            copies.second,
+        ),
+        third: table_copy(
+            parts,
+            triples,
+            side,
+            feeders,
+            read,
+            rows.third,
+            copies.third,
+        ),
     }
 }

@@ -23,11 +23,7 @@ use side_file::Side;
 use std::alloc::{AllocError, Global};
 
 // The text of the least digits of so many feeders at which tables give different outputs; more than 12 feed none.
-fn outputs_told(
-    alloc: Global,
-    tables: &Tables,
-    count: usize,
-) -> Result<Option<Vec<u8>>, AllocError>
+fn outputs_told(alloc: Global, tables: &Tables, count: usize) -> Result<Option<Vec<u8>>, AllocError>
     ensures { IfOk result (λ r. count ≤ 12 → TellsOutputs count tables.now r) }
 {
     if count > 12 {

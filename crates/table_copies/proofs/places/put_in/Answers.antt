@@ -1,4 +1,4 @@
-use Rattle.std.proofs.Common.{map, sym, ap, subst, ◌∙◌, length, ◌≤◌}
+use Rattle.std.proofs.Common.{map, sym, ap, subst, ◌∙◌, ◌≤◌}
 use Rattle.std.proofs.lemmas.List.{length-map}
 use Rattle.circuit.specs.Parts.{Source}
 use Rattle.table_copies.specs.declared.places.Place.TheVariants.{At, Before}
