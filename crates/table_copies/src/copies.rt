@@ -158,33 +158,14 @@ pub(crate) fn tables_of(
     ensures { triples.now ≡ numbers_of side.now (sources_of parts.now) → AreTables side.now (sources_of parts.now) (map (λ s. s.part) feeders.now) read.now
         rows.now.first.now rows.now.second.now rows.now.third.now copies.now result }
 {
+    let CopyNumbers {
+        first,
+        second,
+        third,
+    } = *copies;
     Tables {
-        first: table_copy(
-            parts,
-            triples,
-            side,
-            feeders,
-            read,
-            rows.first,
-            copies.first,
-        ),
-        second: table_copy(
-            parts,
-            triples,
-            side,
-            feeders,
-            read,
-            rows.second,
-            copies.second,
-        ),
-        third: table_copy(
-            parts,
-            triples,
-            side,
-            feeders,
-            read,
-            rows.third,
-            copies.third,
-        ),
+        first: table_copy(parts, triples, side, feeders, read, rows.first, first),
+        second: table_copy(parts, triples, side, feeders, read, rows.second, second),
+        third: table_copy(parts, triples, side, feeders, read, rows.third, third),
     }
 }

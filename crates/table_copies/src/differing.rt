@@ -22,7 +22,7 @@ use part_triples::PartTriples;
 use side_file::Side;
 use std::alloc::{AllocError, Global};
 
-// The text of the least digits of so many feeders at which tables give different outputs; more than 12 feed none.
+// The text of the least digits of so many feeders at which tables give different outputs; three tables have at most 12.
 fn outputs_told(alloc: Global, tables: &Tables, count: usize) -> Result<Option<Vec<u8>>, AllocError>
     ensures { IfOk result (λ r. count ≤ 12 → TellsOutputs count tables.now r) }
 {
