@@ -125,7 +125,7 @@ module _ (cells : Cells) (feeds numbers : List (Option ℕ)) (read : List Bool) 
   flags_own = subst (λ x. (k : ℕ) → k < length (sources x) → (get_or read k false ≡ true) ↔ In feeds (Some k)) (sym shows.feeds_are.cells_are) shows.flags
 
   -- a flagged part is read
-  flagged_read : (k : ℕ) (s : Source) → slice_get (sources c.cells) k ≡ Some s → get_or read k false ≡ true → IsRead c s
+  pub flagged_read : (k : ℕ) (s : Source) → slice_get (sources c.cells) k ≡ Some s → get_or read k false ≡ true → IsRead c s
   flagged_read k s at on =
       let i = number_there feeds (Some k) ((flags_own k (slice_get_within (sources c.cells) k s at)).0 on) in
       let fed : get_or feeds i.0 None ≡ Some k = get_or_from_slice_get feeds i.0 (Some k) None i.1 in
@@ -138,7 +138,7 @@ module _ (cells : Cells) (feeds numbers : List (Option ℕ)) (read : List Bool) 
       (k, (h, (flags_own k (slice_get_within (sources c.cells) k s h)).1 (get_in feeds i (Some k) there)))
 
   -- a read part is flagged
-  read_flagged : (s : Source) → IsRead c s → (k : ℕ) × ((slice_get (sources c.cells) k ≡ Some s) × (get_or read k false ≡ true))
+  pub read_flagged : (s : Source) → IsRead c s → (k : ℕ) × ((slice_get (sources c.cells) k ≡ Some s) × (get_or read k false ≡ true))
   read_flagged s r = (let i = (read_told c feeds shows.feeds_are.tells s).0 r in flag_by s i.0 (get_or feeds i.0 None) refl i.1)
 
 -- ---- one part more, by what a program reads

@@ -163,7 +163,7 @@ no_pad : (x : Source) (t : TableCell) → x.kind ≡ OfTable t → x.part.part �
 no_pad x t h p f = (let g : Fits Pad (OfTable t) = subst (λ k. Fits Pad k) h (subst (λ q. Fits q x.kind) p f) in g)
 
 -- a table has at most four pins
-few_pins : (c : Circuit) → IsWellFormed c → (x : Source) (t : TableCell) → In (sources c.cells) x → x.kind ≡ OfTable t → length t.pins ≤ 4
+pub few_pins : (c : Circuit) → IsWellFormed c → (x : Source) (t : TableCell) → In (sources c.cells) x → x.kind ≡ OfTable t → length t.pins ≤ 4
 few_pins c formed x t i h = elim (of_sources c.cells x i) [
   | inl s ↦ elim (in_either (numbered (table_source s.0) 0 s.0.tables) (numbered (register_source s.0) 0 s.0.registers) x s.1.1) [
     | inl j ↦ (let g = of_numbered (table_source s.0) 0 s.0.tables x j in

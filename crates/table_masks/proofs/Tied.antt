@@ -58,23 +58,23 @@ tell D2 D2 = inl refl
 
 -- ---- numbered pins
 
-length_numbered : (part : PartRef) (n : ℕ) (ws : List ℕ) (x : Pin → Bool) → length (map x (numbered (pin_at part) n ws)) ≡ length ws
+pub length_numbered : (part : PartRef) (n : ℕ) (ws : List ℕ) (x : Pin → Bool) → length (map x (numbered (pin_at part) n ws)) ≡ length ws
 length_numbered part n [] x = refl
 length_numbered part n (w ∷ ws) x = (let rest = length_numbered part (suc n) ws x in omega arith)
 
-bit_numbered : (part : PartRef) (n : ℕ) (ws : List ℕ) (x : Pin → Bool) (i : ℕ) → i < length ws → get_or (map x (numbered (pin_at part) n ws)) i false ≡ x (pin_at part (n + i) (get_or ws i 0))
+pub bit_numbered : (part : PartRef) (n : ℕ) (ws : List ℕ) (x : Pin → Bool) (i : ℕ) → i < length ws → get_or (map x (numbered (pin_at part) n ws)) i false ≡ x (pin_at part (n + i) (get_or ws i 0))
 bit_numbered part n [] x i h = absurd (omega arith)
 bit_numbered part n (w ∷ ws) x zero h = (let e : n ≡ n + 0 = omega arith in ap (λ m. x (pin_at part m w)) e)
 bit_numbered part n (w ∷ ws) x (suc i) h =
     (let e : suc n + i ≡ n + suc i = omega arith in bit_numbered part (suc n) ws x i (omega arith) ∙ ap (λ m. x (pin_at part m (get_or ws i 0))) e)
 
-in_numbered : (part : PartRef) (n : ℕ) (ws : List ℕ) (i : ℕ) → i < length ws → In (numbered (pin_at part) n ws) (pin_at part (n + i) (get_or ws i 0))
+pub in_numbered : (part : PartRef) (n : ℕ) (ws : List ℕ) (i : ℕ) → i < length ws → In (numbered (pin_at part) n ws) (pin_at part (n + i) (get_or ws i 0))
 in_numbered part n [] i h = absurd (omega arith)
 in_numbered part n (w ∷ ws) zero h = inl (let e : n ≡ n + 0 = omega arith in ap (λ m. pin_at part m w) e)
 in_numbered part n (w ∷ ws) (suc i) h =
     inr (let e : suc n + i ≡ n + suc i = omega arith in subst (λ m. In (numbered (pin_at part) (suc n) ws) (pin_at part m (get_or ws i 0))) e (in_numbered part (suc n) ws i (omega arith)))
 
-of_numbered : (part : PartRef) (n : ℕ) (ws : List ℕ) (p : Pin) → In (numbered (pin_at part) n ws) p → (i : ℕ) × ((i < length ws) × (pin_at part (n + i) (get_or ws i 0) ≡ p))
+pub of_numbered : (part : PartRef) (n : ℕ) (ws : List ℕ) (p : Pin) → In (numbered (pin_at part) n ws) p → (i : ℕ) × ((i < length ws) × (pin_at part (n + i) (get_or ws i 0) ≡ p))
 of_numbered part n [] p h = absurd h
 of_numbered part n (w ∷ ws) p h = elim h [
   | inl e ↦ (0, ((let few : 0 < suc (length ws) = omega arith in few), (let z : n + 0 ≡ n = omega arith in ap (λ m. pin_at part m w) z ∙ e)))

@@ -1,0 +1,11 @@
+pub mod Bits
+pub mod Values
+pub mod Order
+pub mod FirstCells
+pub mod Gathered
+pub mod Texts
+pub mod Tying
+pub mod Feeding
+pub mod Giving
+pub mod Read
+pub mod TablesTold
