@@ -1,5 +1,5 @@
 -- Parts that are in a set of voters.
-use Rattle.std.proofs.Common.{◌≡◌, ◌↔◌, ℕ, Bool, true, false, List, [], ◌∷◌, get_or, map, Some, ◌&&◌, ◌||◌, inl, inr, refl, sym, ap, ap₂, subst, ◌∙◌, bytes_eq}
+use Rattle.std.proofs.Common.{◌≡◌, ◌↔◌, ℕ, Bool, true, false, List, [], ◌∷◌, get_or, map, Some, ◌&&◌, ◌||◌, inl, inr, refl, sym, ap, ap₂, subst, ◌∙◌, bytes_eq, arith}
 use Rattle.std.specs.Prelude.{slice_get, ◌==◌}
 use Rattle.std.specs.List.{list_any}
 use Rattle.std.specs.Option.{option_map}
@@ -33,15 +33,16 @@ equal_number x y h = grind (arith, nat_tests)
 same_number : (x : ℕ) → (x == x) ≡ true
 same_number x = grind (arith, nat_tests)
 
+in_any_by : (cell : List ℕ) (n : ℕ) (v : Voter) (voters : List Voter) (b : Bool) → test cell n v ≡ b → (b || list_any (test cell n) voters) ≡ true
+    → (list_any (test cell n) voters ≡ true → In voters (record { slice = cell; table = n })) → In (v ∷ voters) (record { slice = cell; table = n })
+in_any_by cell n v voters true e h later =
+    let parts = both (bytes_eq cell v.slice) (n == v.table) e in
+    inl (ap₂ (λ (a : List ℕ) (b : ℕ). let w : Voter = record { slice = a; table = b } in w) (sym ((bytes_eq-Decides cell v.slice).0 parts.0)) (sym (equal_number n v.table parts.1)))
+in_any_by cell n v voters false e h later = inr (later h)
+
 in_any : (cell : List ℕ) (n : ℕ) (voters : List Voter) → list_any (test cell n) voters ≡ true → In voters (record { slice = cell; table = n })
 in_any cell n [] h = true_false (sym h)
-in_any cell n (v ∷ voters) h = by (test cell n v) refl h
-  where
-    by : (b : Bool) → test cell n v ≡ b → (b || list_any (test cell n) voters) ≡ true → In (v ∷ voters) (record { slice = cell; table = n })
-    by true e h =
-        let parts = both (bytes_eq cell v.slice) (n == v.table) e in
-        inl (ap₂ (λ (a : List ℕ) (b : ℕ). let w : Voter = record { slice = a; table = b } in w) (sym ((bytes_eq-Decides cell v.slice).0 parts.0)) (sym (equal_number n v.table parts.1)))
-    by false e h = inr (in_any cell n voters h)
+in_any cell n (v ∷ voters) h = in_any_by cell n v voters (test cell n v) refl h (λ j. in_any cell n voters j)
 
 or_true : (b c : Bool) → c ≡ true → (b || c) ≡ true
 or_true true c h = refl

@@ -14,7 +14,10 @@ use std::alloc::{AllocError, Global};
 use std::collections::BTreeSet;
 
 // The slices and tables of voters.
-fn listed(alloc: Global, voters: &[Voter]) -> Result<BTreeSet<(&Name, u32)>, AllocError>
+fn listed<'a>(
+    alloc: Global,
+    voters: &'a [Voter],
+) -> Result<BTreeSet<(&'a Name, u32)>, AllocError>
     ensures { IfOk result (λ set. ListsVoters set voters.now) }
 {
     let mut known = BTreeSet::<(&Name, u32)>::new(alloc);
@@ -25,7 +28,7 @@ fn listed(alloc: Global, voters: &[Voter]) -> Result<BTreeSet<(&Name, u32)>, All
 }
 
 // Whether a part is one of them.
-fn is_voter(known: &BTreeSet<(&Name, u32)>, source: &Source<'_>) -> bool
+fn is_voter<'a>(known: &BTreeSet<(&'a Name, u32)>, source: &Source<'a>) -> bool
     ensures { result ≡ is_listed known.now source.now.part }
 {
     match source.part {
@@ -36,10 +39,10 @@ fn is_voter(known: &BTreeSet<(&Name, u32)>, source: &Source<'_>) -> bool
 
 // The flags of parts, raised where they are among them.
 #[tactic(auto, using(circuit_parts::proofs::Gathered::map_more, circuit_parts::proofs::Gathered::map_all))]
-fn flags(
+fn flags<'a>(
     alloc: Global,
-    known: &BTreeSet<(&Name, u32)>,
-    sources: &[Source<'_>],
+    known: &BTreeSet<(&'a Name, u32)>,
+    sources: &[Source<'a>],
 ) -> Result<Vec<bool>, AllocError>
     ensures { IfOk result (λ v. v.items ≡ map (λ s. is_listed known.now s.part) sources.now) }
 {
@@ -52,10 +55,10 @@ fn flags(
 
 /// For each part whether the side file lists it as a voter. Takes time in proportion to parts and voters, times the logarithm of
 /// the voters.
-pub fn voter_parts(
+pub fn voter_parts<'a>(
     alloc: Global,
-    parts: &Parts<'_>,
-    voters: &[Voter],
+    parts: &Parts<'a>,
+    voters: &'a [Voter],
 ) -> Result<Vec<bool>, AllocError>
     ensures { IfOk result (λ v. (c : Circuit) → c.cells ≡ parts.now → c.side.voters ≡ voters.now → AreVoters c v.items) }
 {
