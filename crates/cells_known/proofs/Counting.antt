@@ -19,8 +19,8 @@ parts_in_slice s =
     ∙ ap₂ (λ (a b : ℕ). a + b) (length_numbered (table_source s) 0 s.tables) (length_numbered (register_source s) 0 s.registers)
 
 -- the count of a slice
-pub parts_of_slice : (s : SliceCell) (k : ℕ) → k ≡ capped (length s.tables + length s.registers) → capped k ≡ capped (length (slice_sources s))
-parts_of_slice s k is = (let all = parts_in_slice s in omega arith)
+pub parts_of_slice : (s : SliceCell) (a b k : ℕ) → a ≡ length s.tables → b ≡ length s.registers → k ≡ capped (a + b) → k ≡ capped (length (slice_sources s))
+parts_of_slice s a b k tables registers is = (let all = parts_in_slice s in omega arith)
 
 pad_part_by : (p : PadCell) (r : Role) → length (pad_source_by p r) ≡ cond (not (is_output r)) 1 0
 pad_part_by p InputPad = refl
@@ -67,9 +67,9 @@ register_pins_at s n r =
     let enable = input_pin part 1 r.enable in
     let reset = input_pin part 2 r.reset in
     let clock = input_pin part 3 r.clock in
-    let all = length-append (input ++ (enable ++ reset)) clock in
-    let first = length-append input (enable ++ reset) in
-    let rest = length-append enable reset in
+    let all = length-append ((input ++ enable) ++ reset) clock in
+    let three = length-append (input ++ enable) reset in
+    let two = length-append input enable in
     let a = input_pins_are part 0 r.input in
     let b = input_pins_are part 1 r.enable in
     let c = input_pins_are part 2 r.reset in
@@ -91,7 +91,7 @@ pins_in_slice s =
 
 -- the count of a slice
 pub pins_of_slice : (s : SliceCell) (a b k : ℕ) → a ≡ capped (sum_by (λ t. length t.pins) s.tables) → b ≡ capped (sum_by register_pins s.registers) → k ≡ capped (a + b)
-    → capped k ≡ capped (length (flat_map source_pins (slice_sources s)))
+    → k ≡ capped (length (flat_map source_pins (slice_sources s)))
 pins_of_slice s a b k tables registers is = (let all = pins_in_slice s in omega arith)
 
 slice_pins_are : (slices : List SliceCell) → length (flat_map source_pins (flat_map slice_sources slices)) ≡ sum_by (λ s. length (flat_map source_pins (slice_sources s))) slices

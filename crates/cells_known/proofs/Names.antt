@@ -127,4 +127,3 @@ module _ (g : Graph) (profile : Profile) (image : Bits) (side : Side) (cells : C
   in_name_order = record {
     rises = λ i j s u less es eu. rising_at (map (λ (v : SliceCell). v.name) cells.slices) slices_rise i j s.name u.name less (named i s es) (named j u eu);
   }
-

@@ -9,15 +9,22 @@ ghost use Rattle.circuit.specs.Pins.{pins, source_pins};
 
 use cell_parts::{Cells, Input, PadCell, RegisterCell, Role, SliceCell, TableCell};
 
-// The parts of slices: their tables and registers.
-#[tactic(auto, using(crate::proofs::Sums::sum_more, crate::proofs::Sums::sum_all, crate::proofs::Counting::parts_of_slice))]
+// The parts of a slice: its tables and registers.
+#[tactic(auto, using(crate::proofs::Counting::parts_of_slice))]
+fn own_parts(slice: &SliceCell) -> usize
+    ensures { result ≡ capped (length (slice_sources slice.now)) }
+{
+    slice.tables.len().saturating_add(slice.registers.len())
+}
+
+// The parts of slices.
+#[tactic(auto, using(crate::proofs::Sums::sum_more_capped, crate::proofs::Sums::sum_all))]
 fn slice_parts(slices: &[SliceCell]) -> usize
     ensures { result ≡ capped (sum_by (λ s. length (slice_sources s)) slices.now) }
 {
     let mut count = 0usize;
     for slice in slices {
-        let tables = slice.tables.len();
-        count = count.saturating_add(tables.saturating_add(slice.registers.len()));
+        count = count.saturating_add(own_parts(slice));
     }
     count
 }
@@ -51,21 +58,31 @@ fn register_pins(registers: &[RegisterCell]) -> usize
 {
     let mut count = 0usize;
     for register in registers {
-        let data = input_pin(register.input) + input_pin(register.enable) + input_pin(register.reset);
+        let data = input_pin(register.input)
+            + input_pin(register.enable)
+            + input_pin(register.reset);
         count = count.saturating_add(data + input_pin(register.clock));
     }
     count
 }
 
+// The pins of a slice: those of its tables and registers.
+#[tactic(auto, using(crate::proofs::Counting::pins_of_slice))]
+fn own_pins(slice: &SliceCell) -> usize
+    ensures { result ≡ capped (length (flat_map source_pins (slice_sources slice.now))) }
+{
+    let tables = table_pins(slice.tables.as_slice());
+    tables.saturating_add(register_pins(slice.registers.as_slice()))
+}
+
 // The pins of slices.
-#[tactic(auto, using(crate::proofs::Sums::sum_more, crate::proofs::Sums::sum_all, crate::proofs::Counting::pins_of_slice))]
+#[tactic(auto, using(crate::proofs::Sums::sum_more_capped, crate::proofs::Sums::sum_all))]
 fn slice_pins(slices: &[SliceCell]) -> usize
     ensures { result ≡ capped (sum_by (λ s. length (flat_map source_pins (slice_sources s))) slices.now) }
 {
     let mut count = 0usize;
     for slice in slices {
-        let tables = table_pins(slice.tables.as_slice());
-        count = count.saturating_add(tables.saturating_add(register_pins(slice.registers.as_slice())));
+        count = count.saturating_add(own_pins(slice));
     }
     count
 }

@@ -76,8 +76,7 @@ flags_are set voters cells ss flags lists all made c same side = record {
   flags = λ k s at.
       let whole : flags ≡ map (λ (x : Source). is_listed set x.part) (sources c.cells) = made ∙ ap (map (λ (x : Source). is_listed set x.part)) (all ∙ ap sources (sym same)) in
       let there : slice_get flags k ≡ Some (is_listed set s.part) = ap (λ xs. slice_get xs k) whole ∙ (slice_get-map (λ (x : Source). is_listed set x.part) (sources c.cells) k ∙ ap (option_map (λ (x : Source). is_listed set x.part)) at) in
-      let flag : get_or flags k false ≡ is_listed set s.part = get_or_from_slice_get flags k (is_listed set s.part) false there in
-      (
+      let flag : get_or flags k false ≡ is_listed set s.part = get_or_from_slice_get flags k (is_listed set s.part) false there in (
         (λ h. let v = votes set voters lists s.part.cell s.part.part (sym flag ∙ h) in (v.0, (v.1.0, subst (λ vs. In vs (record { slice = s.part.cell; table = v.0 })) (sym side) v.1.1))),
         (λ h. flag ∙ voting set voters lists s.part.cell s.part.part h.0 h.1.0 (subst (λ vs. In vs (record { slice = s.part.cell; table = h.0 })) side h.1.1)),
       );

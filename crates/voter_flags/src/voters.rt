@@ -14,10 +14,7 @@ use std::alloc::{AllocError, Global};
 use std::collections::BTreeSet;
 
 // The slices and tables of voters.
-fn listed<'a>(
-    alloc: Global,
-    voters: &'a [Voter],
-) -> Result<BTreeSet<(&'a Name, u32)>, AllocError>
+fn listed<'a>(alloc: Global, voters: &'a [Voter]) -> Result<BTreeSet<(&'a Name, u32)>, AllocError>
     ensures { IfOk result (λ set. ListsVoters set voters.now) }
 {
     let mut known = BTreeSet::<(&Name, u32)>::new(alloc);
