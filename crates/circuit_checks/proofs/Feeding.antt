@@ -1,10 +1,10 @@
 -- Sources without a name.
-use Rattle.std.proofs.Common.{◌≡◌, ◌<◌, ℕ, List, length, Option, Some, sym, ap, subst, ◌∙◌}
+use Rattle.std.proofs.Common.{◌≡◌, ℕ, List, Option, Some, sym, subst}
 use Rattle.std.specs.Prelude.{slice_get}
 use Rattle.links.specs.Links.{IsClean}
 use Rattle.fabric.specs.Wires.{Wire}
 use Rattle.fabric.specs.Graph.{Graph}
-use Rattle.answers.specs.Refusals.{Refusal, UnnamedSource}
+use Rattle.answers.specs.Refusals.{UnnamedSource}
 use Rattle.circuit.specs.Cells.{Cells}
 use Rattle.circuit.specs.Pins.{Pin, PinRef, pins}
 use Rattle.circuit.specs.Circuits.{Circuit}

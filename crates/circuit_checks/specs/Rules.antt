@@ -1,9 +1,7 @@
 -- The rules of triplication as checks in a row. (Our own.)
 use Rattle.std.specs.Prelude.{ℕ, Bool, true, nat_lt, Option, None, Some}
-use Rattle.circuit.specs.Parts.{PartRef}
 use Rattle.circuit.specs.Pins.{PinRef}
 use Rattle.circuit.specs.Circuits.{Circuit}
-use Rattle.fabric.specs.Graph.{Graph}
 use Rattle.answers.specs.Refusals as answers
 use Rattle.answers.specs.Refusals.{Refusal}
 use Rattle.design_checks.specs.Checks.{◌before◌}

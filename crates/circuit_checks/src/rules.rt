@@ -12,9 +12,7 @@ ghost use Rattle.load_routing.specs.Refused.{IsRefusedBy};
 
 use crate::Listed;
 use crate::pins::{PinCheck, pins_checked};
-use crate::whole::{
-    clocks_checked, copies_checked, loops_checked, masks_checked, outputs_checked,
-};
+use crate::whole::{clocks_checked, copies_checked, loops_checked, masks_checked, outputs_checked};
 use load_routing::LoadError;
 use std::alloc::Global;
 

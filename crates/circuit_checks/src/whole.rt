@@ -7,7 +7,7 @@ ghost use Rattle.circuit.specs.Circuits.{Circuit};
 ghost use Rattle.circuit.specs.Pins.{pins as pins_in};
 ghost use Rattle.circuit_checks.specs.Lists.{IsKept, IsOf};
 ghost use Rattle.circuit_checks.specs.Rules.{is_known_in};
-ghost use Rattle.copy_checks.specs.Told.{TellsUnlike};
+ghost use Rattle.copy_checks.specs.Unlike.{TellsUnlike};
 ghost use Rattle.design_checks.specs.Checks.{Passes};
 ghost use Rattle.design_checks.specs.CopyChecks.{CopiesUnlike};
 ghost use Rattle.design_checks.specs.DesignChecks.{OutputsMissing};
@@ -144,7 +144,13 @@ pub(crate) fn masks_checked(alloc: Global, listed: &Listed<'_, '_>) -> Result<()
     requires { IsKept listed.now }
     ensures { (c : Circuit) → IsOf c listed.now → MatchResult result (λ _. Passes (TablesFail c)) (IsRefusedBy (TablesFail c)) }
 {
-    match not_masking(alloc, listed.parts, listed.feeds, &listed.read, &listed.triples) {
+    match not_masking(
+        alloc,
+        listed.parts,
+        listed.feeds,
+        &listed.read,
+        &listed.triples,
+    ) {
         Ok(found) => refuse_unmasked(alloc, listed.parts, found),
         Err(_) => Err(LoadError::Memory),
     }

@@ -1,4 +1,4 @@
-use Rattle.std.proofs.Common.{Some, sym, ap, ◌∙◌, option_map}
+use Rattle.std.proofs.Common.{sym}
 use Rattle.std.specs.Prelude.{slice_get}
 use Rattle.circuit.specs.Pins.{Pin, pins}
 use Rattle.report_text.specs.Names.{pin_view, wire_view}
