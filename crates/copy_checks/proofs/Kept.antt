@@ -1,5 +1,5 @@
 -- The read copies of a register, by numbers.
-use Rattle.std.proofs.Common.{◌≡◌, ◌↔◌, ℕ, ◌<◌, Bool, true, false, List, [], ◌∷◌, ◌++◌, length, get_or, Option, None, Some, option_and_then, ◌⊎◌, inl, inr, refl, sym, ap, subst, ◌∙◌}
+use Rattle.std.proofs.Common.{◌≡◌, ◌↔◌, ℕ, ◌<◌, Bool, true, false, List, [], ◌++◌, length, get_or, Option, None, Some, option_and_then, inl, inr, refl, sym, ap, subst, ◌∙◌}
 use Rattle.std.specs.Prelude.{slice_get}
 use Rattle.std.proofs.lemmas.Bool.{false≢true}
 use Rattle.std.proofs.lemmas.Option.{get_or_from_slice_get, slice_get_within, slice_get-get_or}
@@ -7,10 +7,9 @@ use Rattle.words.specs.Members.{In}
 use Rattle.links.proofs.Members.{in_left, in_right, in_either}
 use Rattle.records.specs.Side.{Triple}
 use Rattle.circuit.specs.Cells.{Cells}
-use Rattle.circuit.specs.Parts.{PartKind, Register, PartRef, Source, sources}
+use Rattle.circuit.specs.Parts.{Register, Source, sources}
 use Rattle.circuit.specs.Triples.{IsEntry}
 use Rattle.circuit.specs.Circuits.{Circuit, IsRead}
-use Rattle.circuit.specs.Triplicated.{ReadPart}
 use Rattle.copy_rules.specs.Copies.{IsReadCopy, AreReadCopies}
 use Rattle.design_checks.specs.CopyChecks.{part_in}
 use Rattle.fabric_laws.proofs.Numbered.{get_in, number_there}
@@ -34,7 +33,7 @@ none_some x h = (let no : ⊥ = cc in no)
 
 of_present : (o : Option ℕ) (k : ℕ) → In (present o) k → o ≡ Some k
 of_present None k h = absurd h
-of_present (Some n) k h = elim h [ inl e ↦ ap (λ m. Some m) e | inr no ↦ absurd no ]
+of_present (Some n) k h = elim h [ inl e ↦ ap (λ m. Some m) e | inr never ↦ absurd never ]
 
 in_present : (o : Option ℕ) (k : ℕ) → o ≡ Some k → In (present o) k
 in_present None k h = absurd (none_some k h)
@@ -136,7 +135,7 @@ module _ (cells : Cells) (feeds numbers : List (Option ℕ)) (read : List Bool) 
           | inl e ↦ inr (inl ((second_kept k).1 (number_by t.second k h.source copies.second (numbered t.second copies.second are.second) h.numbered (h.is ∙ ap (λ n. part_in n (Register number)) (sym e)), on)))
           | inr j ↦ elim j [
             | inl e ↦ inr (inr ((third_kept k).1 (number_by t.third k h.source copies.third (numbered t.third copies.third are.third) h.numbered (h.is ∙ ap (λ n. part_in n (Register number)) (sym e)), on)))
-            | inr no ↦ absurd no
+            | inr never ↦ absurd never
           ]
         ]
       ]))
@@ -148,3 +147,6 @@ module _ (cells : Cells) (feeds numbers : List (Option ℕ)) (read : List Bool) 
             let i = number_there list k (in_list k h) in
             (i.0, (slice_get_within list i.0 k i.1, get_or_from_slice_get list i.0 k 0 i.1));
       }
+
+pub there_moved : (a b d x y z : Option ℕ) (list : List ℕ) → a ≡ x → b ≡ y → d ≡ z → AreThere a b d list → AreThere x y z list
+there_moved a b d x y z list first second third there = subst (λ o. AreThere x y o list) third (subst (λ o. AreThere x o d list) second (subst (λ o. AreThere o b d list) first there))

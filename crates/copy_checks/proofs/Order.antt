@@ -15,7 +15,7 @@ use Rattle.design_checks.specs.CopyChecks.{part_in, DifferIn}
 use Rattle.copy_checks.specs.declared.unlike.Unlike.{Unlike}
 use Rattle.copy_checks.specs.declared.numbered.Numbered.{Numbered}
 use Rattle.copy_checks.specs.declared.numbered.Numbered.TheVariants.{Tables, Registers}
-use Rattle.copy_checks.specs.Unlike.{named, kind_at, IsAnswer, IsTold, NotAfter, Gains, Covers, IsLesser, WithPart, WithKind, WithTriple, WithTriples, WithOutputs}
+use Rattle.copy_checks.specs.Unlike.{named, kind_at, IsAnswer, NotAfter, Gains, Covers, IsLesser, WithPart, WithKind, WithTriple, WithTriples, WithOutputs}
 
 part_total : IsTotalOrder part_cmp
 part_total = then_total (on_total (λ p. p.cell) nat_list_cmp_total) (then_total (on_total (λ p. rank_of p.part) nat_cmp_total) (on_total (λ p. number_of p.part) nat_cmp_total))

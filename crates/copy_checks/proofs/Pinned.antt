@@ -1,10 +1,10 @@
 -- The pins of output pads, by name.
-use Rattle.std.proofs.Common.{◌≡◌, ◌≢◌, ◌↔◌, ℕ, zero, suc, ◌+◌, ◌-◌, ◌<◌, ◌≤◌, Bool, true, false, cond, List, [], ◌∷◌, ◌++◌, length, map, drop, take, get_or, Option, None, Some, ◌⊎◌, inl, inr, refl, sym, ap, subst, ◌∙◌, Bor, bytes_eq, arith}
+use Rattle.std.proofs.Common.{◌≡◌, ◌≢◌, ℕ, zero, suc, ◌+◌, ◌<◌, ◌≤◌, Bool, true, false, cond, List, [], ◌∷◌, ◌++◌, length, map, get_or, Option, None, Some, ◌⊎◌, inl, inr, refl, sym, ap, subst, ◌∙◌, Bor, bytes_eq, arith}
 use Rattle.std.specs.Prelude.{slice_get}
 use Rattle.std.specs.List.{flat_map}
 use Rattle.std.specs.Ordering.{nat_cmp, is_eq}
 use Rattle.std.specs.Cmp.Lexicographic.{slice_cmp}
-use Rattle.std.specs.BTreeMap.{BTreeMap, get}
+use Rattle.std.specs.BTreeMap.{get}
 use Rattle.std.proofs.lemmas.Cmp.{nat_list_eq_equiv}
 use Rattle.std.proofs.lemmas.Map.Text.{is_eq-slice_cmp}
 use Rattle.std.proofs.lemmas.Bool.{false≢true}
@@ -119,7 +119,7 @@ module _ (c : Circuit) (cells : Cells) (same : c.cells ≡ cells) (names : Names
   pin_by : (name : List ℕ) (k : ℕ) → IsEntry t name → place_in held name ≡ Some k → (p : PadCell) × IsOutputPin c t k p
   pin_by name k entry e =
       let x : IsPadPin c.cells name (Some k) = subst (IsPadPin c.cells name) e (own_pads name) in
-      (x.0, (x.1.0, (subst (IsEntry t) (sym x.1.1.0) entry, x.1.1.1)))
+      (x.0, (x.1.0, subst (IsEntry t) (sym x.1.1.0) entry, x.1.1.1))
 
   pin_of : (k : ℕ) → In list k → (p : PadCell) × IsOutputPin c t k p
   pin_of k i = elim ((there k).0 i) [
@@ -143,7 +143,7 @@ module _ (c : Circuit) (cells : Cells) (same : c.cells ≡ cells) (names : Names
       | inl e ↦ (let x = pad_at p t.second i (sym e) in (x.0, ((there x.0).1 (inr (inl x.1.0)), x.1.1)))
       | inr l ↦ elim l [
         | inl e ↦ (let x = pad_at p t.third i (sym e) in (x.0, ((there x.0).1 (inr (inr x.1.0)), x.1.1)))
-        | inr no ↦ absurd no
+        | inr never ↦ absurd never
       ]
     ]
   ]

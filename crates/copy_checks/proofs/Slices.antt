@@ -1,14 +1,13 @@
 -- Where copies of a table or a register differ, a cell of the triple has it and all before it.
-use Rattle.std.proofs.Common.{◌≡◌, ℕ, zero, suc, ◌+◌, ◌<◌, ◌≤◌, Bool, List, [], ◌∷◌, ◌++◌, length, get_or, Option, None, Some, ◌⊎◌, inl, inr, refl, sym, ap, subst, ◌∙◌, arith}
+use Rattle.std.proofs.Common.{◌≡◌, ℕ, zero, suc, ◌+◌, ◌<◌, ◌≤◌, Bool, List, [], ◌∷◌, length, get_or, Option, None, inl, inr, refl, sym, ap, subst, ◌∙◌, arith}
 use Rattle.std.specs.Prelude.{codes}
 use Rattle.std.specs.List.{flat_map}
 use Rattle.std.proofs.lemmas.List.{length-append}
 use Rattle.words.specs.Members.{In}
 use Rattle.links.proofs.Members.{in_left, in_right, in_either, in_flat_map}
 use Rattle.records.specs.Side.{Triple}
-use Rattle.circuit.specs.Cells.{TableCell, RegisterCell, SliceCell, Cells}
+use Rattle.circuit.specs.Cells.{SliceCell, Cells}
 use Rattle.circuit.specs.Parts.{PartKind, Table, Register, Pad, PartRef, Source, numbered, table_source, register_source, slice_sources, pad_sources, sources}
-use Rattle.circuit.specs.Pins.{Pin}
 use Rattle.circuit.specs.Triples.{PartTriple, IsEntry}
 use Rattle.circuit.specs.Circuits.{Circuit}
 use Rattle.circuit_laws.proofs.Parts.{of_sources, of_slice, of_pad_by}
@@ -152,8 +151,8 @@ text_apart : codes "-" ≡ codes "0" → ⊥
 text_apart h = (let e : get_or (codes "-") 0 0 ≡ get_or (codes "0") 0 0 = ap (λ xs. get_or xs 0 0) h in absurd (omega arith))
 
 given : (c : Circuit) (bits : PartTriple → Bool) (part : PartRef) (text : List ℕ) → Gives c bits part text → text ≡ codes "0" → (s : Source) × (In (sources c.cells) s × (s.part ≡ part))
-given c bits part _ (output s t x e rs ks asg open_zero) zero = (s, (rs.listed, e))
-given c bits part _ (unread none) zero = absurd (text_apart zero)
+given c bits part _ (output s t x e rs ks asg open_zero) is_zero = (s, (rs.listed, e))
+given c bits part _ (unread none) is_zero = absurd (text_apart is_zero)
 
 -- a cell of the triple has it
 pub differing_part : (c : Circuit) (t : Triple) (which : Numbered) (n : ℕ) → DiffersAt c t (kind_at which n)
@@ -167,7 +166,7 @@ differing_part c t Tables n d = of_table d.1.1
         | inl e ↦ (t.second, (inr (inl refl), given c x.bits (part_in t.second (Table n)) x.second x.gives_second e))
         | inr j ↦ elim j [
           | inl e ↦ (t.third, (inr (inr (inl refl)), given c x.bits (part_in t.third (Table n)) x.third x.gives_third e))
-          | inr no ↦ absurd no
+          | inr never ↦ absurd never
         ]
       ]
     ]
@@ -185,7 +184,7 @@ absent cells t kind copies are none cell entry s h e = elim entry [
     | inl is ↦ none_of (sources cells) (part_in t.second kind) copies.second are.second none.1.0 s h (e ∙ ap (λ n. part_in n kind) (sym is))
     | inr j ↦ elim j [
       | inl is ↦ none_of (sources cells) (part_in t.third kind) copies.third are.third none.1.1 s h (e ∙ ap (λ n. part_in n kind) (sym is))
-      | inr no ↦ no
+      | inr never ↦ never
     ]
   ]
 ]
@@ -195,15 +194,15 @@ module _ (c : Circuit) (cells : Cells) (same : c.cells ≡ cells) (t : Triple) (
   pub kind_stops : (copies : CopyNumbers) → AreCopyNumbers (sources cells) t (kind_at which n) copies → (copies.first ≡ None) × ((copies.second ≡ None) × (copies.third ≡ None)) → WithKind c t which old found
   kind_stops copies are none = (so_far.0, λ m d. so_far.1 m (before m d) d)
     where
+      less : (m n : ℕ) → (n ≤ m → ⊥) → m < n
+      less m n apart = omega arith
+
       before : (m : ℕ) → DiffersAt c t (kind_at which m) → m < n
       before m d =
           let x = differing_part c t which m d in
-          let no : n ≤ m → ⊥ = λ le. (let u = earlier c.cells x.0 x.1.1.0 which m n x.1.1.1.0 x.1.1.1.1 le in
-              absent cells t (kind_at which n) copies are none x.0 x.1.0 u.0 (subst (λ v. In (sources v) u.0) same u.1.0) u.1.1) in
-          less m n no
-
-      less : (m n : ℕ) → (n ≤ m → ⊥) → m < n
-      less m n no = omega arith
+          let later : n ≤ m → ⊥ = λ le. (let u = earlier c.cells x.0 x.1.1.0 which m n x.1.1.1.0 x.1.1.1.1 le in
+          absent cells t (kind_at which n) copies are none x.0 x.1.0 u.0 (subst (λ v. In (sources v) u.0) same u.1.0) u.1.1) in
+          less m n later
 
   -- so many numbers are those of all parts
   pub kind_ends : length (sources cells) ≤ n → WithKind c t which old found

@@ -1,20 +1,20 @@
 -- What the least part so far says of the check, and in what copies differ.
-use Rattle.std.proofs.Common.{◌≡◌, ℕ, Bool, List, ◌++◌, length, Option, None, Some, refl, sym, ap, subst, ◌∙◌}
-use Rattle.std.specs.Prelude.{slice_get, codes}
+use Rattle.std.proofs.Common.{◌≡◌, ℕ, List, length, Option, None, Some, sym, subst, ◌∙◌}
+use Rattle.std.specs.Prelude.{codes}
 use Rattle.std.specs.Global.{Vec}
 use Rattle.std.proofs.lemmas.Option.{slice_get_within}
 use Rattle.words.specs.Members.{In}
 use Rattle.records.specs.Side.{Triple}
-use Rattle.circuit.specs.Parts.{PartKind, Table, Register, Pad, PartRef}
+use Rattle.circuit.specs.Parts.{Table, Register, Pad, PartRef}
 use Rattle.circuit.specs.Circuits.{Circuit}
 use Rattle.answers.specs.Refusals.{Refusal}
-use Rattle.design_checks.specs.CopyChecks.{part_in, DifferIn, in_tables, in_registers, in_outputs, CopiesUnlike, unlike, OutputsDiffer, Field, IsFirstField, field_text, digits_or_dash}
+use Rattle.design_checks.specs.CopyChecks.{part_in, DifferIn, in_tables, in_registers, in_outputs, CopiesUnlike, unlike, OutputsDiffer, Field, IsFirstField, field_text}
 use Rattle.fabric_laws.proofs.Numbered.{number_there}
 use Rattle.table_copies.specs.Told.{TellsTables}
 use Rattle.copy_checks.specs.declared.unlike.Unlike.{Unlike}
 use Rattle.copy_checks.specs.declared.numbered.Numbered.{Numbered}
 use Rattle.copy_checks.specs.declared.numbered.Numbered.TheVariants.{Tables, Registers}
-use Rattle.copy_checks.specs.Unlike.{named, kind_at, DiffersAt, IsAnswer, IsTold, NotAfter, Gains, Covers, WithTriples, WithOutputs, TellsUnlike}
+use Rattle.copy_checks.specs.Unlike.{named, kind_at, IsAnswer, IsTold, NotAfter, Covers, WithTriples, WithOutputs, TellsUnlike}
 
 -- ---- in what copies differ
 
@@ -23,7 +23,7 @@ tables_none c t n none d = none d.0 d.1.0 d.1.1
 
 pub tables_some : (c : Circuit) (t : Triple) (n : ℕ) (text : Vec ℕ) (u : Unlike) → In c.side.triples t → TellsTables c t n (Some text) → named u ≡ part_in t.first (Table n) → u.what.items ≡ text.items → IsAnswer c t (Table n) (Some u)
 tables_some c t n text u i x is what =
-    (is, subst (λ r. DifferIn c r u.what.items) (sym is) (subst (DifferIn c (part_in t.first (Table n))) (sym (what ∙ x.1.1.1.1)) (in_tables t n x.0 x.1.0 i x.1.1.0 x.1.1.1.0)))
+    (is, subst (λ r. DifferIn c r u.what.items) (sym is) (subst (DifferIn c (part_in t.first (Table n))) (sym (what ∙ x.1.1.2)) (in_tables t n x.0 x.1.0 i x.1.1.0 x.1.1.1)))
 
 pub field_told : (c : Circuit) (t : Triple) (n : ℕ) (f : Field) (u : Unlike) → In c.side.triples t → IsFirstField c t n f → named u ≡ part_in t.first (Register n) → u.what.items ≡ field_text f → IsAnswer c t (Register n) (Some u)
 field_told c t n f u i x is what = (is, subst (λ r. DifferIn c r u.what.items) (sym is) (subst (DifferIn c (part_in t.first (Register n))) (sym what) (in_registers t n f i x)))

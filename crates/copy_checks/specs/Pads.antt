@@ -1,11 +1,10 @@
 -- The pins of output pads by name. (Our own.)
-use Rattle.std.specs.Prelude.{◌≡◌, ℕ, ◌<◌, ◌≤◌, List, length, slice_get, Option, None, Some}
+use Rattle.std.specs.Prelude.{◌≡◌, ℕ, ◌<◌, ◌≤◌, List, slice_get, Option, None, Some}
 use Rattle.std.specs.BTreeMap.{BTreeMap}
 use Rattle.words.specs.Members.{In}
 use Rattle.circuit.specs.Cells.{PadCell, Cells}
-use Rattle.circuit.specs.Parts.{sources, output_pads}
+use Rattle.circuit.specs.Parts.{output_pads}
 use Rattle.circuit.specs.Pins.{Pin, pad_pin, pins}
-use Rattle.circuit_parts.specs.Flat.{first_pin}
 use Rattle.part_triples.specs.Places.{place_in}
 use denote.Ref.{Bor}
 

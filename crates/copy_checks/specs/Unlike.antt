@@ -1,7 +1,6 @@
 -- The least part whose copies differ, as it is looked for. (Our own.)
-use Rattle.std.specs.Prelude.{◌≡◌, ◌≢◌, ℕ, ◌<◌, ◌×◌, Bool, List, slice_get, Option, None, Some, codes}
+use Rattle.std.specs.Prelude.{◌≡◌, ◌≢◌, ℕ, ◌<◌, Bool, List, slice_get, Option, None, Some}
 use Rattle.std.specs.declared.cmp.Ordering.TheVariants.{Greater}
-use Rattle.words.specs.Members.{In}
 use Rattle.records.specs.Side.{Triple}
 use Rattle.circuit.specs.Parts.{PartKind, Table, Register, Pad, PartRef}
 use Rattle.circuit.specs.Circuits.{Circuit}
@@ -33,10 +32,6 @@ DiffersAt c t Pad = OutputsDiffer c t
 abbrev pub IsAnswer : Circuit → Triple → PartKind → Option Unlike → Type 0
 IsAnswer c t kind None = DiffersAt c t kind → ⊥
 IsAnswer c t kind (Some u) = (named u ≡ part_in t.first kind) × DifferIn c (named u) u.what.items
-
--- the output pad of a triple with the text of its check
-abbrev pub IsUnlikePad : Triple → Unlike → Type 0
-IsUnlikePad t u = (named u ≡ part_in t.first Pad) × (u.what.items ≡ codes "out")
 
 -- what was found differs so
 abbrev pub IsTold : Circuit → Option Unlike → Type 0

@@ -46,7 +46,7 @@ fn with_part<'a>(
     least: Option<Unlike<'a>>,
 ) -> Result<Option<Unlike<'a>>, AllocError>
     ensures { IfOk result (λ r. (c : Circuit) → IsOf c design.now → In c.side.triples triple.now → AreCopyNumbers (sources_of design.now.parts.now) triple.now (kind_at which number) copies.now
-        → WithPart c triple.now (kind_at which number) least r) }
+        → WithPart c triple.now (kind_at which number) least.entry r) }
 {
     match part_unlike(alloc, design, triple, which, number, copies)? {
         None => Ok(least),
@@ -69,7 +69,7 @@ fn with_kind<'a>(
     which: Numbered,
     least: Option<Unlike<'a>>,
 ) -> Result<Option<Unlike<'a>>, AllocError>
-    ensures { IfOk result (λ r. (c : Circuit) → IsOf c design.now → In c.side.triples triple.now → WithKind c triple.now which least r) }
+    ensures { IfOk result (λ r. (c : Circuit) → IsOf c design.now → In c.side.triples triple.now → WithKind c triple.now which least.entry r) }
 {
     let mut found = least;
     for number in 0..design.parts.sources().len() {
@@ -77,15 +77,7 @@ fn with_kind<'a>(
         if are_absent(&copies) {
             return Ok(found);
         }
-        found = with_part(
-            alloc,
-            design,
-            triple,
-            which,
-            number as u32,
-            &copies,
-            found,
-        )?;
+        found = with_part(alloc, design, triple, which, number as u32, &copies, found)?;
     }
     Ok(found)
 }
@@ -97,7 +89,7 @@ fn with_triple<'a>(
     triple: &'a Triple,
     least: Option<Unlike<'a>>,
 ) -> Result<Option<Unlike<'a>>, AllocError>
-    ensures { IfOk result (λ r. (c : Circuit) → IsOf c design.now → In c.side.triples triple.now → WithTriple c triple.now least r) }
+    ensures { IfOk result (λ r. (c : Circuit) → IsOf c design.now → In c.side.triples triple.now → WithTriple c triple.now least.entry r) }
 {
     let found = with_kind(alloc, design, triple, Numbered::Tables, least)?;
     with_kind(alloc, design, triple, Numbered::Registers, found)

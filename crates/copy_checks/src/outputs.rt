@@ -6,26 +6,15 @@ ghost use Rattle.circuit.specs.Circuits.{Circuit};
 ghost use Rattle.circuit.specs.Parts.{Pad};
 ghost use Rattle.copy_checks.specs.Given.{IsOf};
 ghost use Rattle.copy_checks.specs.Pads.{HoldsPads};
-ghost use Rattle.copy_checks.specs.Unlike.{IsAnswer, IsUnlikePad, WithOutputs, WithPart};
+ghost use Rattle.copy_checks.specs.Unlike.{IsAnswer, WithOutputs, WithPart};
 
 use crate::design::Design;
 use crate::pads::{PadPins, output_pins};
-use crate::unlike::{Unlike, lesser};
+use crate::unlike::{Unlike, lesser, unlike_of};
 use cell_parts::PartKind;
 use copy_rules::outputs_differ;
 use side_file::Triple;
 use std::alloc::{AllocError, Global};
-
-// The output pad of a triple, whose copies differ.
-fn unlike_pad<'a>(alloc: Global, triple: &'a Triple) -> Result<Unlike<'a>, AllocError>
-    ensures { IfOk result (λ u. IsUnlikePad triple.now u) }
-{
-    Ok(Unlike {
-        cell: &triple.first,
-        part: PartKind::Pad,
-        what: Vec::from_slice(alloc, b"out")?,
-    })
-}
 
 // Whether the output pads of a triple are fed otherwise.
 fn output_unlike<'a>(
@@ -40,7 +29,8 @@ fn output_unlike<'a>(
     if !outputs_differ(design.parts, design.feeds, design.triples, &pins) {
         return Ok(None);
     }
-    Ok(Some(unlike_pad(alloc, triple)?))
+    let what = Vec::from_slice(alloc, b"out")?;
+    Ok(Some(unlike_of(triple, PartKind::Pad, what)))
 }
 
 // The least part so far, where the output pads of a triple are looked at too.
@@ -51,7 +41,7 @@ fn with_output<'a>(
     triple: &'a Triple,
     least: Option<Unlike<'a>>,
 ) -> Result<Option<Unlike<'a>>, AllocError>
-    ensures { IfOk result (λ r. (c : Circuit) → IsOf c design.now → HoldsPads design.now.parts.now pads.now → In c.side.outputs triple.now → WithPart c triple.now Pad least r) }
+    ensures { IfOk result (λ r. (c : Circuit) → IsOf c design.now → HoldsPads design.now.parts.now pads.now → In c.side.outputs triple.now → WithPart c triple.now Pad least.entry r) }
 {
     match output_unlike(alloc, design, pads, triple)? {
         None => Ok(least),
@@ -67,7 +57,7 @@ pub(crate) fn with_outputs<'a>(
     triples: &'a [Triple],
     least: Option<Unlike<'a>>,
 ) -> Result<Option<Unlike<'a>>, AllocError>
-    ensures { IfOk result (λ r. (c : Circuit) → IsOf c design.now → HoldsPads design.now.parts.now pads.now → c.side.outputs ≡ triples.now → WithOutputs c triples.now (length triples.now) least r) }
+    ensures { IfOk result (λ r. (c : Circuit) → IsOf c design.now → HoldsPads design.now.parts.now pads.now → c.side.outputs ≡ triples.now → WithOutputs c triples.now (length triples.now) least.entry r) }
 {
     let mut found = least;
     for triple in triples {

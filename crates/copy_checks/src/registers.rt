@@ -15,7 +15,7 @@ ghost use Rattle.copy_checks.specs.Unlike.{IsAnswer};
 
 use crate::design::Design;
 use crate::listed::listed;
-use crate::unlike::Unlike;
+use crate::unlike::{Unlike, unlike_of};
 use cell_parts::PartKind;
 use circuit_parts::SourceId;
 use copy_rules::{Field, first_field};
@@ -90,10 +90,9 @@ pub(crate) fn register_unlike<'a>(
     let read = read_copies(alloc, design, copies)?;
     match first_field(design.parts, design.feeds, design.triples, &read) {
         None => Ok(None),
-        Some(field) => Ok(Some(Unlike {
-            cell: &triple.first,
-            part: PartKind::Register(number),
-            what: Vec::from_slice(alloc, text_of(field))?,
-        })),
+        Some(field) => {
+            let what = Vec::from_slice(alloc, text_of(field))?;
+            Ok(Some(unlike_of(triple, PartKind::Register(number), what)))
+        }
     }
 }

@@ -9,7 +9,7 @@ ghost use Rattle.copy_checks.specs.Given.{IsOf};
 ghost use Rattle.copy_checks.specs.Unlike.{IsAnswer};
 
 use crate::design::Design;
-use crate::unlike::Unlike;
+use crate::unlike::{Unlike, unlike_of};
 use cell_parts::PartKind;
 use part_copies::CopyNumbers;
 use side_file::Triple;
@@ -38,10 +38,6 @@ pub(crate) fn table_unlike<'a>(
     )?;
     match told {
         None => Ok(None),
-        Some(what) => Ok(Some(Unlike {
-            cell: &triple.first,
-            part: PartKind::Table(number),
-            what,
-        })),
+        Some(what) => Ok(Some(unlike_of(triple, PartKind::Table(number), what))),
     }
 }
