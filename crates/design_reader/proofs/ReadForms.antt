@@ -1,7 +1,6 @@
 -- What is read was read from some bytes.
 use Rattle.std.proofs.Common.{◌≡◌, ℕ, inl, inr, List, [], ◌∷◌, ◌++◌, refl, sym, ap, subst}
 use Rattle.std.specs.Prelude.{Result, Ok, Err, Option, Some, None, IfOk}
-use Rattle.words.specs.Members.{In}
 use Rattle.records.specs.Database.{TileDb}
 use Rattle.records.specs.Grid.{Grid}
 use Rattle.fabric.specs.Device.{TypeDb}
@@ -45,9 +44,6 @@ database_read name None (Ok db) h =
     let same : no_records ≡ db = cc in
     ([], subst (λ (d : TileDb). database_of [] ≡ Ok d) same no_bytes)
 database_read name (Some bytes) (Ok db) h = (bytes, not_refused (database_refusal name) (database_of bytes) db h)
-
-pub none_read : (types : List TypeDb) → types ≡ [] → AreReadDatabases types
-none_read types none t i = absurd (subst (λ (ts : List TypeDb). In ts t) none i)
 
 behind_read : (types : List TypeDb) (last : TypeDb) → AreReadDatabases types → IsReadDatabase last.db → AreReadDatabases (types ++ last ∷ [])
 behind_read [] last before here t i = elim i [ inl e ↦ subst (λ (u : TypeDb). IsReadDatabase u.db) e here | inr j ↦ absurd j ]

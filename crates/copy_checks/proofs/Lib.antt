@@ -1,0 +1,5 @@
+pub mod Order
+pub mod Slices
+pub mod Kept
+pub mod Pinned
+pub mod Telling

@@ -1,0 +1,4 @@
+pub mod Listed
+pub mod Given
+pub mod Pads
+pub mod Unlike
