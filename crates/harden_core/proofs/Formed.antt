@@ -24,6 +24,11 @@ use Rattle.check_laws.proofs.RoutingRules.{output_wire}
 use Rattle.rule_laws.proofs.Checked.{circuits_are}
 use Rattle.live_routing.proofs.Standing.{outputs_within}
 use Rattle.circuit_checks.specs.Lists.{IsFormed}
+use Rattle.cram_image.specs.Image.{bits}
+use Rattle.harden_core.specs.Loaded.{IsLoaded}
+use Rattle.live_routing.specs.Live.{LiveRouting, live_routing}
+use Rattle.patterns.specs.Bits.{Bits}
+use Rattle.pin_feeds.specs.PinFeeds.{ArePinFeeds}
 use Rattle.formed_laws.proofs.Formed.{read_entries, read_well_formed}
 use Rattle.formed_laws.proofs.ProfileRead.{read_fit}
 use Rattle.net_order.specs.Orders.{AreInNameOrder}
@@ -61,3 +66,23 @@ module _ (design : Design) (g : Graph) (cells : Cells) (is : IsGraph design.devi
 -- a profile that is read has few pins at each table
 pub few_pins : (profile : Profile) → IsReadProfile profile → HasFewPins profile
 few_pins profile read = record { few = (read_fit profile read).few_pins }
+
+-- what conducts in a live routing
+pub clean_in : (live : LiveRouting) (g : Graph) (image : Bits) → live.graph ≡ g → bits live.image ≡ image → IsClean (live_routing live) → IsClean (routing_of g image)
+clean_in live g image over same clean = subst (λ (x : Graph). IsClean (routing_of x image)) over (subst (λ (x : Bits). IsClean (routing_of live.graph x)) same clean)
+
+pub fed_in : (live : LiveRouting) (g : Graph) (image : Bits) (feeds : List (Option ℕ)) → live.graph ≡ g → bits live.image ≡ image → AreFeeds (live_routing live) feeds → AreFeeds (routing_of g image) feeds
+fed_in live g image feeds over same fed = subst (λ (x : Graph). AreFeeds (routing_of x image) feeds) over (subst (λ (x : Bits). AreFeeds (routing_of live.graph x) feeds) same fed)
+
+-- what is kept of a design that no check refuses
+pub loaded : (design : Design) (live : LiveRouting) (cells : Cells) (feeds : List (Option ℕ)) (g : Graph) → live.graph ≡ g → bits live.image ≡ image_of g design.config
+    → IsGraph design.device g → IsReadDevice design.device → IsReadSide design.side → OverlapsNowhere design.device
+    → cells_of g design.device.profile (image_of g design.config) design.side ≡ Ok cells → IsClean (routing_of g (image_of g design.config))
+    → ArePinFeeds (circuit_of (configured_as design g cells)) feeds → Passes (CircuitRefused g (circuit_of (configured_as design g cells))) → IsLoaded design live cells feeds
+loaded design live cells feeds g over image is device side apart its clean are passes = record {
+  graph = subst (λ (x : Graph). IsGraph design.device x) (sym over) is;
+  image = subst (λ (x : Graph). bits live.image ≡ image_of x design.config) (sym over) image;
+  its_cells = subst (λ (x : Graph). cells_of x design.device.profile (image_of x design.config) design.side ≡ Ok cells) (sym over) its;
+  its_feeds = subst (λ (x : Graph). ArePinFeeds (circuit_of (configured_as design x cells)) feeds) (sym over) are;
+  triplicated = subst (λ (x : Graph). IsTriplicated (circuit_of (configured_as design x cells))) (sym over) (triplicated design g cells is device side apart its clean passes);
+}

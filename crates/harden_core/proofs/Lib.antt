@@ -2,3 +2,4 @@ pub mod Graphless
 pub mod CellFaults
 pub mod Formed
 pub mod Refusals
+pub mod Moved

@@ -17,6 +17,13 @@ use Rattle.live_routing.specs.Live.{LiveRouting}
 abbrev pub loaded_circuit : Design → LiveRouting → Cells → Circuit
 loaded_circuit design live cells = circuit_of (configured_as design live.graph cells)
 
+-- a design with its live routing, its cells and what feeds each of their pins
+pub record LoadedDesign : Type 0 where
+  pub design : Design
+  pub live : LiveRouting
+  pub cells : Cells
+  pub feeds : List (Option ℕ)
+
 -- The live routing is that of the image of the design's text over the graph of its device, the cells are those of this image, and
 -- the list has what feeds each of their pins; the circuit is triplicated.
 pub record IsLoaded (design : Design) (live : LiveRouting) (cells : Cells) (feeds : List (Option ℕ)) : Type 0 where

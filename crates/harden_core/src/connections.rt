@@ -1,13 +1,15 @@
 //! The connections of the cells of a design, where the checks of its circuit pass.
 
-ghost use Rattle.std.specs.Prelude.{◌≡◌, Ok, MatchResult};
+ghost use Rattle.std.specs.Prelude.{◌≡◌, IfOk, Ok, MatchResult};
 ghost use Rattle.cells.specs.CellsOf.{cells_of};
 ghost use Rattle.cram_image.specs.Image.{bits};
 ghost use Rattle.design_checks.specs.Checks.{Passes};
 ghost use Rattle.design_checks.specs.DesignChecks.{CircuitRefused, configured_as};
 ghost use Rattle.fabric.specs.Image.{image_of};
+ghost use Rattle.fabric.specs.Links.{routing_of};
 ghost use Rattle.formed_laws.specs.DatabaseRead.{IsReadDevice};
 ghost use Rattle.formed_laws.specs.Readers.{IsReadSide};
+ghost use Rattle.links.specs.Links.{IsClean};
 ghost use Rattle.load_routing.specs.Refused.{IsRefusedBy};
 ghost use Rattle.number_lists.specs.Routed.{graph_of};
 ghost use Rattle.pin_feeds.specs.PinFeeds.{ArePinFeeds};
@@ -40,9 +42,11 @@ pub(crate) fn connections_or_refused<'a, 'b>(
     requires over { live.now.graph ≡ graph_of graph.now }
     requires image { bits live.now.image ≡ image_of (graph_of graph.now) design.now.config }
     requires cells { cells_of (graph_of graph.now) design.now.device.profile (image_of (graph_of graph.now) design.now.config) design.now.side ≡ Ok cells.now }
-    ensures { let c = circuit_of (configured_as design.now (graph_of graph.now) cells.now) in
+    ensures clean { IfOk result (λ _. IsClean (routing_of (graph_of graph.now) (image_of (graph_of graph.now) design.now.config))) }
+    ensures answer { let c = circuit_of (configured_as design.now (graph_of graph.now) cells.now) in
         MatchResult result (λ v. ArePinFeeds c v.items × Passes (CircuitRefused (graph_of graph.now) c)) (IsRefusedBy (CircuitRefused (graph_of graph.now) c)) }
 {
+    let _device = graph.device();
     slices_stand_in_order();
     parts_number_once();
     if !are_few(cells) {

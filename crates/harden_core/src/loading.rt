@@ -9,7 +9,6 @@ ghost use Rattle.design_checks.specs.DesignChecks.{CellsRefused, TextRefused};
 ghost use Rattle.fabric.specs.Image.{image_of};
 ghost use Rattle.formed_laws.specs.DatabaseRead.{IsReadDevice};
 ghost use Rattle.formed_laws.specs.Readers.{IsReadSide};
-ghost use Rattle.harden_core.specs.Loaded.{IsLoaded};
 ghost use Rattle.load_routing.specs.Refused.{IsRefusedBy};
 ghost use Rattle.number_lists.specs.Routed.{graph_of};
 ghost use Rattle.size_laws.specs.Sizes.{OverlapsNowhere};
@@ -23,16 +22,27 @@ use live_routing::Live;
 use load_routing::{LoadError, live_or_refused};
 use route_graph::RouteGraph;
 use std::alloc::Global;
+use std::marker::Model;
+use text_image::graph_of_device_stands;
 
 /// A design with its live routing, its cells and the part that feeds each of their pins. They belong together, and the circuit that they
-/// are is triplicated.
+/// are is triplicated. Contracts see the four of them.
 #[derive(Drop)]
 pub struct Loaded<'a, 'b> {
     pub(crate) design: &'a ReadDesign,
     pub(crate) live: Live<'a, RouteGraph<'b>>,
     pub(crate) cells: Cells,
     pub(crate) feeds: Vec<Option<SourceId>>,
-    ghost loaded: { IsLoaded design.now live cells feeds.items },
+}
+
+impl<'a, 'b> Model for Loaded<'a, 'b> {
+    ghost use Rattle.harden_core.specs.Loaded.{IsLoaded, LoadedDesign};
+
+    ghost Value = { LoadedDesign };
+
+    ghost view = { λ l. record { design = l.design.now; live = l.live; cells = l.cells; feeds = l.feeds.items } };
+
+    ghost invariant = { λ l. IsLoaded l.design.now l.live l.cells l.feeds.items };
 }
 
 // A design with its cells, where the checks of its circuit pass.
@@ -47,11 +57,12 @@ fn with_cells<'a, 'b>(
     requires side { IsReadSide design.now.side }
     requires its_graph { graph.now.device ≡ design.now.device }
     requires apart { OverlapsNowhere design.now.device }
-    requires over { live.entry.graph ≡ graph_of graph.now }
-    requires image { bits live.entry.image ≡ image_of (graph_of graph.now) design.now.config }
-    requires cells { cells_of (graph_of graph.now) design.now.device.profile (image_of (graph_of graph.now) design.now.config) design.now.side ≡ Ok cells.entry }
+    requires over { live.graph ≡ graph_of graph.now }
+    requires image { bits live.image ≡ image_of (graph_of graph.now) design.now.config }
+    requires cells { cells_of (graph_of graph.now) design.now.device.profile (image_of (graph_of graph.now) design.now.config) design.now.side ≡ Ok cells }
     ensures { MatchResult result (λ _. Passes (CellsRefused design.now (graph_of graph.now))) (IsRefusedBy (CellsRefused design.now (graph_of graph.now))) }
 {
+    let _device = graph.device();
     match connections_or_refused(alloc, design, graph, &live, &cells) {
         Ok(feeds) => Ok(Loaded {
             design,
@@ -74,11 +85,13 @@ fn with_routing<'a, 'b>(
     requires side { IsReadSide design.now.side }
     requires its_graph { graph.now.device ≡ design.now.device }
     requires apart { OverlapsNowhere design.now.device }
-    requires over { live.entry.graph ≡ graph_of graph.now }
-    requires image { bits live.entry.image ≡ image_of (graph_of graph.now) design.now.config }
+    requires over { live.graph ≡ graph_of graph.now }
+    requires image { bits live.image ≡ image_of (graph_of graph.now) design.now.config }
     ensures { let g = graph_of graph.now in let refused = Computed (cell_refusal g design.now.device.profile (image_of g design.now.config) design.now.side) before CellsRefused design.now g in
         MatchResult result (λ _. Passes refused) (IsRefusedBy refused) }
 {
+    let _device = graph.device();
+    graph_of_device_stands();
     match cells_or_refused(alloc, graph, live.image(), &design.profile, &design.side) {
         Ok(cells) => with_cells(alloc, design, graph, live, cells),
         Err(error) => Err(error),
