@@ -15,7 +15,6 @@ use anyhow::{Context, Result};
 use case_tables::{is_case, text_of};
 use outside::MemSink;
 use setup::Setup;
-use std::alloc::Global;
 use std::mem;
 use std::rt::Files;
 use top_call::{exit_number, harden_main};

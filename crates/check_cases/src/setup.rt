@@ -47,7 +47,9 @@ fn edited(alloc: Global, text: &str, edit: &str) -> Result<String> {
     let (old, new) = edit.split_once("=>").context("an edit is wanted")?;
     let old = part_of(alloc, old)?;
     let new = part_of(alloc, new)?;
-    let (before, behind) = text.split_once(old.as_str()).context("no place for an edit")?;
+    let (before, behind) = text
+        .split_once(old.as_str())
+        .context("no place for an edit")?;
     Ok(format!(in alloc; "{before}{new}{behind}")?)
 }
 
@@ -107,7 +109,12 @@ impl Setup {
     }
 
     // Changes a file.
-    fn change_file<R: Files + AllocGlobal>(&mut self, rt: &R, kind: &str, what: &str) -> Result<()> {
+    fn change_file<R: Files + AllocGlobal>(
+        &mut self,
+        rt: &R,
+        kind: &str,
+        what: &str,
+    ) -> Result<()> {
         let alloc = rt.alloc();
         let (path, what) = what.split_once('|').context("a path is wanted")?;
         let bytes = match kind {

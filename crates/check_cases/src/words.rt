@@ -18,7 +18,9 @@ fn push_option(alloc: Global, words: &mut Vec<String>, option: &str, value: &str
 // The words of `check` over a family, a configuration and a side file.
 fn check_words(alloc: Global, names: &str) -> Result<Vec<String>> {
     let (family, rest) = names.split_once(' ').context("a family is wanted")?;
-    let (config, side) = rest.split_once(' ').context("a configuration and a side file are wanted")?;
+    let (config, side) = rest
+        .split_once(' ')
+        .context("a configuration and a side file are wanted")?;
     let profile = format!(in alloc; "{family}/profile.json")?;
     let mut words = Vec::new(alloc);
     push_word(alloc, &mut words, "check")?;
