@@ -8,17 +8,17 @@
 //! Lines with `#` are headings.
 #![tactic(auto)]
 
+mod case_words;
 mod setup;
-mod words;
 
 use anyhow::{Context, Result};
 use case_tables::{is_case, text_of};
+use case_words::words_of;
 use outside::MemSink;
 use setup::Setup;
 use std::mem;
 use std::rt::Files;
 use top_call::{exit_number, harden_main};
-use words::words_of;
 
 // Runs a case, and prints how it ends.
 fn run_case<R: Files + Print + AllocGlobal>(
