@@ -3,7 +3,7 @@ use Rattle.std.proofs.Common.{◌≡◌, ◌⊎◌, inl, inr, [], refl, sym, ap,
 use Rattle.std.specs.Prelude.{Option, Some, None, Result, Ok, option_map}
 use Rattle.records.specs.Side.{Side}
 use Rattle.fabric.specs.Graph.{Graph}
-use Rattle.fabric.specs.GraphOf.{graph_of, IsGraph}
+use Rattle.fabric.specs.GraphOf.{IsGraph}
 use Rattle.fabric.specs.Image.{image_of}
 use Rattle.circuit.specs.Cells.{Cells}
 use Rattle.cells.specs.Faults.{CellFault, cell_fault}
@@ -21,6 +21,7 @@ use Rattle.design_checks.specs.CellChecks.{cell_refusal, refusal_of_cells}
 use Rattle.design_checks.specs.DesignChecks.{GraphRefused, TextRefused, CellsRefused, DesignRefused, IsFirstRefusal, of_design}
 use Rattle.design_answers.specs.Outcomes.{IsOutcome, checks, refuses}
 use Rattle.check_laws.proofs.Passing.{first_passes, second_passes}
+use Rattle.fabric_laws.specs.PlainGraph.{graph_of}
 use Rattle.fabric_laws.proofs.Graphs.{has_graph}
 use Rattle.check_command.specs.Checked.{accepted_answer, refused_answer, IsCheckedBy, IsCheckedAs}
 
