@@ -66,7 +66,7 @@ fn over_its_graph(
 }
 
 /// What `check` replies to a design that is read: the counts of a design that no check refuses, or the line of the first check that
-/// refuses it. Takes time in proportion to the design, times logarithms.
+/// refuses it.
 pub fn checked(alloc: Global, design: &ReadDesign) -> Result<Reply, AllocError>
     requires device { IsReadDevice design.now.device }
     requires side { IsReadSide design.now.side }
