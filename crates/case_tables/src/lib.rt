@@ -5,4 +5,4 @@ mod phrases;
 mod table;
 
 pub use phrases::{fault, plain_fault, push_line, push_number, push_word};
-pub use table::{bytes_of, is_case, text_of};
+pub use table::{bytes_of, is_case, text_of, written_out};

@@ -72,8 +72,8 @@ fn push_escaped(bytes: &mut Vec<u8>, escaped: &[u8]) -> Result<()> {
     Ok(())
 }
 
-// The bytes of a text that is written out.
-fn written_out(alloc: Global, text: &str) -> Result<Vec<u8>> {
+/// The bytes of a text, with its parts repeated and its backslashes read.
+pub fn written_out(alloc: Global, text: &str) -> Result<Vec<u8>> {
     let text = expanded(alloc, text)?;
     let mut parts = text.split('\\');
     let mut bytes = Vec::new(alloc);

@@ -3,6 +3,7 @@ use Rattle.std.proofs.Common.{◌≡◌, List, ℕ, inl, inr, ap, subst, ◌∙�
 use Rattle.std.specs.Prelude.{Result, Ok, Err, IfOk}
 use Rattle.std.specs.declared.alloc.AllocError.{AllocError}
 use Rattle.records.specs.Side.{Side}
+use Rattle.fabric.specs.Device.{Device}
 use Rattle.fabric.specs.Graph.{Graph}
 use Rattle.fabric.specs.GraphOf.{IsGraph}
 use Rattle.answers.specs.Answers as status
@@ -40,11 +41,12 @@ behind first second side answer passes by = elim by [
 ]
 
 -- over the one graph of a device
-pub whole_checked : (design : Design) (g : Graph) (result : Result Answer AllocError) → IsGraph design.device g → Passes (GraphRefused design g)
+pub whole_checked : (design : Design) (device : Device) (g : Graph) (result : Result Answer AllocError) → IsGraph device g → device ≡ design.device → Passes (GraphRefused design g)
     → IfOk result (IsCheckedBy (TextRefused design g before CellsRefused design g) design.side) → IfOk result (IsCheckedAs design)
-whole_checked design g (Ok answer) is passes by = λ h ih. subst (λ (x : Graph). IsCheckedBy (DesignRefused design x) design.side answer) (one_graph design.device g h is ih)
+whole_checked design device g (Ok answer) is its passes by = λ h ih.
+    subst (λ (x : Graph). IsCheckedBy (DesignRefused design x) design.side answer) (one_graph design.device g h (subst (λ (d : Device). IsGraph d g) its is) ih)
     (behind (GraphRefused design g) (TextRefused design g before CellsRefused design g) design.side answer passes by)
-whole_checked design g (Err e) is passes by = tt
+whole_checked design device g (Err e) is its passes by = tt
 
 first_refuses : (first second : Refusal → Type 0) (error : LoadError) → IsRefusedBy first error → IsRefusedBy (first before second) error
 first_refuses first second (Refused text) by = (by.0, (inl by.1.0, by.1.1))

@@ -50,7 +50,6 @@ fn over_graph(
 }
 
 // The reply to a design over its graph, where the checks of the graph pass.
-#[tactic(auto, using(crate::proofs::Answering::whole_checked))]
 fn over_its_graph(
     alloc: Global,
     design: &ReadDesign,
@@ -67,8 +66,7 @@ fn over_its_graph(
 }
 
 /// What `check` replies to a design that is read: the counts of a design that no check refuses, or the line of the first check that
-/// refuses it. Takes time in proportion to the design, times logarithms.
-#[tactic(auto, using(crate::proofs::Answering::graph_refuses))]
+/// refuses it.
 pub fn checked(alloc: Global, design: &ReadDesign) -> Result<Reply, AllocError>
     requires device { IsReadDevice design.now.device }
     requires side { IsReadSide design.now.side }
