@@ -1,1 +1,4 @@
 pub mod Sorted
+pub mod Affected
+pub mod Rules
+pub mod Sources

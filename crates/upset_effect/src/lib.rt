@@ -5,3 +5,4 @@ mod arcs;
 mod bits;
 mod order;
 mod rule;
+mod sources;
