@@ -1,4 +1,7 @@
+pub mod Outcomes
 pub mod Sorted
 pub mod Affected
 pub mod Rules
-pub mod Sources
+pub mod Gathered
+pub mod Sunk
+pub mod Kept

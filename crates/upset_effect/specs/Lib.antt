@@ -1,2 +1,3 @@
 pub mod Passing
 pub mod Reach
+pub mod Driven

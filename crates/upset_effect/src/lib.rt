@@ -3,6 +3,8 @@
 
 mod arcs;
 mod bits;
+mod hits;
 mod order;
 mod rule;
+mod sinks;
 mod sources;

@@ -14,12 +14,12 @@ use routing_graph::RoutingGraph;
 use rr_ids::{ArcId, DeviceBit, MuxId, WireId};
 use std::alloc::{AllocError, Global};
 
-// Adds a source, if its arc passes.
-fn add_if(sources: &mut Vec<WireId>, passes: bool, source: WireId) -> Result<(), AllocError>
-    ensures { OnOk result (sources.new.items ≡ (if passes then sources.old.items ++ source ∷ [] else sources.old.items)) }
+/// Adds a wire, if it passes.
+pub(crate) fn add_if(wires: &mut Vec<WireId>, passes: bool, w: WireId) -> Result<(), AllocError>
+    ensures { OnOk result (wires.new.items ≡ (if passes then wires.old.items ++ w ∷ [] else wires.old.items)) }
 {
     if passes {
-        sources.push(source)?;
+        wires.push(w)?;
     }
     Ok(())
 }

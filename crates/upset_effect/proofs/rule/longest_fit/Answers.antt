@@ -12,7 +12,7 @@ use Rattle.upset_effect.proofs.Rules.{arc_below, told_length, told_or}
 use Rattle.upset_effect.proofs.rule.longest_fit.Goals as goal
 
 pub fits-requires : goal.fits-requires
-fits-requires g c = arc_below (g.G.NamedGraph.graph c.args.graph.now) c.args.m _ (subst (λ (xs : List ℕ). In xs _) c.arcs_of-a-items.ensures (met _ c.loop-a.a-index _ c.loop-a-test.true c.a-item.is))
+fits-requires g c = arc_below (g.G.NamedGraph.graph c.args.graph.now) c.args.m c.a-item.result (subst (λ (xs : List ℕ). In xs c.a-item.result) c.arcs_of-a-items.ensures (met c.arcs_of-a-items.result.now c.loop-a.a-index c.a-item.result c.loop-a-test.true c.a-item.is))
 
 pub loop-a-preserved : goal.loop-a-preserved
 loop-a-preserved g c =
