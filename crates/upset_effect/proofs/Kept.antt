@@ -23,7 +23,9 @@ drop_all (suc i) (x ∷ xs) h = drop_all i xs (omega arith)
 drop_more : (i : ℕ) (xs : List ℕ) (x : ℕ) → i < length xs → x ≡ get_or xs i x → drop i xs ≡ x ∷ drop (i + 1) xs
 drop_more i [] x h e = absurd (omega arith)
 drop_more zero (y ∷ xs) x h e = ap (λ z. z ∷ xs) (sym e)
-drop_more (suc i) (y ∷ xs) x h e = drop_more i xs x (omega arith) e
+drop_more (suc i) (y ∷ xs) x h e =
+    let same : suc i + 1 ≡ suc (i + 1) = omega arith in
+    subst (λ (n : ℕ). drop (suc i) (y ∷ xs) ≡ x ∷ drop n (y ∷ xs)) (sym same) (drop_more i xs x (omega arith) e)
 
 without : (kept : List ℕ) (x : ℕ) (rest : List ℕ) → IsRising nat_cmp (kept ++ x ∷ rest) → IsRising nat_cmp (kept ++ rest)
 without [] x rest h = h.1

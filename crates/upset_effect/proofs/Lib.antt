@@ -5,3 +5,4 @@ pub mod Rules
 pub mod Gathered
 pub mod Sunk
 pub mod Kept
+pub mod Changing
