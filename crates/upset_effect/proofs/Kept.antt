@@ -85,3 +85,13 @@ module _ (P : ℕ → Type 0) (xs : List ℕ) where
     rising = subst (IsRising nat_cmp) (ap (λ (zs : List ℕ). kept ++ zs) (drop_all i xs past) ∙ append-nil kept) k.rising;
     members = λ x. subst (λ (zs : List ℕ). In kept x ↔ (In zs x × P x)) (take_all i xs past) (k.members x);
   }
+
+-- those of a list are those with its property
+pub kept_of : (D C : ℕ → Type 0) (xs kept : List ℕ) → AreThose D xs → AreThose (λ x. In xs x × C x) kept → AreThose (λ x. D x × C x) kept
+kept_of D C xs kept d k = record {
+  rising = k.rising;
+  members = λ x. (
+    (λ i. let r = (k.members x).0 i in ((d.members x).0 r.0, r.1)),
+    (λ h. (k.members x).1 ((d.members x).1 h.0, h.1)),
+  );
+}

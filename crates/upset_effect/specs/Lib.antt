@@ -1,3 +1,4 @@
 pub mod Passing
 pub mod Reach
 pub mod Driven
+pub mod Found

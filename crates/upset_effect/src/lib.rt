@@ -2,9 +2,12 @@
 #![tactic(auto)]
 
 mod arcs;
+mod behind;
 mod bits;
 mod hits;
 mod order;
 mod rule;
+mod shorts;
 mod sinks;
 mod sources;
+mod touched;
