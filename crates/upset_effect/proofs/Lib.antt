@@ -6,3 +6,6 @@ pub mod Gathered
 pub mod Sunk
 pub mod Kept
 pub mod Changing
+pub mod Walked
+pub mod Joining
+pub mod Effecting

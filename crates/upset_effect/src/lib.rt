@@ -10,4 +10,9 @@ mod rule;
 mod shorts;
 mod sinks;
 mod sources;
+mod told;
 mod touched;
+mod whole;
+
+pub use told::Effect;
+pub use whole::effect;
