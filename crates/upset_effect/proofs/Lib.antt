@@ -9,3 +9,4 @@ pub mod Changing
 pub mod Walked
 pub mod Joining
 pub mod Effecting
+pub mod Driving

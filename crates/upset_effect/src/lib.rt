@@ -4,6 +4,7 @@
 mod arcs;
 mod behind;
 mod bits;
+mod decided;
 mod hits;
 mod order;
 mod rule;
@@ -14,5 +15,6 @@ mod told;
 mod touched;
 mod whole;
 
+pub use decided::is_shorted;
 pub use told::Effect;
 pub use whole::effect;
