@@ -1,18 +1,17 @@
 -- What is found over a graph and an image is the effect of the flips.
-use Rattle.std.proofs.Common.{◌≡◌, ℕ, ◌<◌, ◌↔◌, ◌⊎◌, List, ◌++◌, length, map, filter, sym, ap, ap₂, subst, ◌∙◌, inl, inr}
+use Rattle.std.proofs.Common.{◌≡◌, ℕ, ◌↔◌, ◌⊎◌, List, ◌++◌, sym, ap, subst, ◌∙◌, inl, inr}
 use Rattle.std.specs.Ordering.{nat_cmp}
 use Rattle.words.specs.Members.{In}
-use Rattle.patterns.specs.Bits.{DeviceBit, Bits, bits_of_list}
-use Rattle.links.specs.Links.{Upstream}
+use Rattle.patterns.specs.Bits.{Bits}
 use Rattle.links.proofs.Members.{in_either, in_left, in_right}
 use Rattle.fabric.specs.InOrder.{InOrderOnce}
 use Rattle.fabric.specs.Graph.{Graph}
-use Rattle.fabric.specs.Links.{routing_of}
 use Rattle.circuit.specs.Cells.{Cells}
 use Rattle.upset.specs.Configured.{Configured}
-use Rattle.upset.specs.Effect.{IsHit, IsShorted, IsDisturbed, touched_names}
+use Rattle.upset.specs.Effect.{IsHit, IsShortSource, IsDisturbed, touched_names}
+use Rattle.upset.specs.Roots.{IsRoot}
 use Rattle.upset_effect.specs.Effects.{FlipEffect, IsEffectOf}
-use Rattle.upset_effect.specs.Reach.{AreThose, IsBehind, IsDisturbedIn, IsHitIn, IsJoined, IsShortSourceIn}
+use Rattle.upset_effect.specs.Reach.{AreThose, IsBehind, IsDisturbedIn, IsHitIn, IsShortSourceIn}
 
 -- a list of those with a property has those with one that is as strong
 pub those_of : (P Q : ℕ → Type 0) (xs : List ℕ) → ((x : ℕ) → P x ↔ Q x) → AreThose P xs → AreThose Q xs
@@ -55,17 +54,38 @@ module _ (k : Configured) (flips : Bits) where
     (λ h. ((h.arc, (h.listed, (h.affected, h.drives))), (h.source, h.differs))),
   )
 
+  short_same : (x : ℕ) → IsShortSourceIn k.graph k.image flips x ↔ IsShortSource k flips x
+  short_same x = (
+    (λ s. record { sink = s.0; shorted = record { hit = (hit_same s.0).0 s.1.0; joined = s.1.1.0 }; after = s.1.1.1 }),
+    (λ s. (s.sink, ((hit_same s.sink).1 s.shorted.hit, (s.shorted.joined, s.after)))),
+  )
+
   pub disturbed_same : (w : ℕ) → IsDisturbedIn k.graph k.image flips w ↔ IsDisturbed k flips w
   disturbed_same w = (
     (λ h. elim h [
       | inl i ↦ inl ((hit_same w).0 i)
-      | inr r ↦ (let s = r.1.0 in inr (r.0, (record { sink = s.0; shorted = record { hit = (hit_same s.0).0 s.1.0; joined = s.1.1.0 }; after = s.1.1.1 }, r.1.1)))
+      | inr r ↦ inr (r.0, ((short_same r.0).0 r.1.0, r.1.1))
     ]),
     (λ h. elim h [
       | inl i ↦ inl ((hit_same w).1 i)
-      | inr r ↦ (let s = r.1.0 in inr (r.0, ((s.sink, ((hit_same s.sink).1 s.shorted.hit, (s.shorted.joined, s.after))), r.1.1)))
+      | inr r ↦ inr (r.0, ((short_same r.0).1 r.1.0, r.1.1))
     ]),
   )
+
+  roots_same : (hit sources : List ℕ) → ((w : ℕ) → In hit w ↔ IsHitIn k.graph k.image flips w) → ((x : ℕ) → In sources x ↔ IsShortSourceIn k.graph k.image flips x)
+      → (w : ℕ) → (In hit w ⊎ In sources w) ↔ IsRoot k flips w
+  roots_same hit sources are short w = (
+    (λ h. elim h [ inl i ↦ inl ((hit_same w).0 ((are w).0 i)) | inr j ↦ inr ((short_same w).0 ((short w).0 j)) ]),
+    (λ h. elim h [ inl i ↦ inl ((are w).1 ((hit_same w).1 i)) | inr j ↦ inr ((short w).1 ((short_same w).1 j)) ]),
+  )
+
+-- the roots
+pub roots_are : (g : Graph) (image flips : Bits) (hit sources kept : List ℕ) → ((w : ℕ) → In hit w ↔ IsHitIn g image flips w) → ((x : ℕ) → In sources x ↔ IsShortSourceIn g image flips x)
+    → AreThose (λ w. In hit w ⊎ In sources w) kept → (k : Configured) → k.graph ≡ g → k.image ≡ image → AreThose (IsRoot k flips) kept
+roots_are g image flips hit sources kept are short all k of_graph of_image =
+    those_of (λ w. In hit w ⊎ In sources w) (IsRoot k flips) kept (roots_same k flips hit sources
+    (subst (λ (h : Graph). (w : ℕ) → In hit w ↔ IsHitIn h k.image flips w) (sym of_graph) (subst (λ (i : Bits). (w : ℕ) → In hit w ↔ IsHitIn g i flips w) (sym of_image) are))
+    (subst (λ (h : Graph). (x : ℕ) → In sources x ↔ IsShortSourceIn h k.image flips x) (sym of_graph) (subst (λ (i : Bits). (x : ℕ) → In sources x ↔ IsShortSourceIn g i flips x) (sym of_image) short))) all
 
 -- the whole effect
 pub effect_is : (g : Graph) (image flips : Bits) (cells : Cells) (e : FlipEffect) → AreThose (IsHitIn g image flips) e.hit → AreThose (IsDisturbedIn g image flips) e.disturbed

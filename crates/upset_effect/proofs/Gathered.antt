@@ -1,11 +1,10 @@
 -- The sources of a wire after a flip.
-use Rattle.std.proofs.Common.{◌≡◌, ℕ, ◌+◌, ◌<◌, ◌≤◌, Bool, true, false, ◌↔◌, List, [], ◌∷◌, ◌++◌, length, map, filter, flat_map, take, get_or, cond, Option, Some, None, option_map, refl, sym, ap, ap₂, subst, ◌∙◌, inl, inr, eq-eqb}
+use Rattle.std.proofs.Common.{◌≡◌, ℕ, ◌+◌, ◌<◌, ◌≤◌, Bool, true, false, List, [], ◌∷◌, ◌++◌, length, flat_map, take, get_or, cond, Some, option_map, refl, sym, ap, ap₂, subst, ◌∙◌, inl, inr, eq-eqb}
 use Rattle.std.specs.Prelude.{slice_get, ◌==◌, if◌then◌else◌}
 use Rattle.std.specs.Ordering.{nat_cmp}
 use Rattle.std.specs.Option.{option_map_or}
 use Rattle.std.proofs.lemmas.Bool.{eqb-true}
-use Rattle.std.proofs.lemmas.Grind.{flat_map-append}
-use Rattle.std.proofs.lemmas.List.{append-nil, append_assoc, flat_map_more, take_all, take_more}
+use Rattle.std.proofs.lemmas.List.{append-nil, flat_map_more, take_all, take_more}
 use Rattle.std.proofs.lemmas.Option.{slice_get_within}
 use Rattle.words.specs.Members.{In}
 use Rattle.patterns.specs.Bits.{Bits}
@@ -15,7 +14,6 @@ use Rattle.fabric.specs.Device.{Device}
 use Rattle.fabric.specs.InOrder.{InOrderOnce}
 use Rattle.fabric.specs.Graph.{GraphMux, GraphArc, Graph}
 use Rattle.fabric.specs.GraphOf.{IsGraph}
-use Rattle.fabric.specs.Links.{link_of}
 use Rattle.fabric_laws.proofs.Chosen.{arc_links}
 use Rattle.fabric_laws.proofs.Graphs.{some_same}
 use Rattle.fabric_laws.proofs.Numbered.{get_in, number_there}

@@ -1,12 +1,12 @@
 -- Which arcs of a mux conduct after a flip.
-use Rattle.std.proofs.Common.{◌≡◌, ℕ, ◌<◌, ◌≤◌, Bool, true, false, ◌&&◌, List, length, max, cond, Option, Some, None, option_map, sym, ap, subst, ◌∙◌, inl, inr, eq-eqb}
-use Rattle.std.specs.Prelude.{slice_get, nat_le, ◌==◌}
+use Rattle.std.proofs.Common.{◌≡◌, ℕ, ◌<◌, ◌≤◌, true, false, List, length, Option, Some, option_map, sym, ap, subst, ◌∙◌, inl, inr, eq-eqb}
+use Rattle.std.specs.Prelude.{slice_get, ◌==◌}
 use Rattle.std.specs.Option.{option_map_or}
 use Rattle.std.proofs.lemmas.Bool.{eqb-true}
 use Rattle.std.proofs.lemmas.Option.{slice_get_within}
 use Rattle.words.specs.Members.{In}
 use Rattle.patterns.specs.Bits.{Bits, PatternBit, flipped}
-use Rattle.patterns.specs.Fits.{fits, present}
+use Rattle.patterns.specs.Fits.{fits}
 use Rattle.records.specs.Grid.{origin_of}
 use Rattle.fabric.specs.Device.{Device}
 use Rattle.fabric.specs.Graph.{GraphMux, GraphArc, Graph}
@@ -19,13 +19,13 @@ use Rattle.fabric_laws.proofs.Numbered.{get_in, number_there}
 use Rattle.fabric_laws.proofs.Standing.{arc_stands}
 use Rattle.graph_lists.specs.ArcLists.{arcs_in}
 use Rattle.graph_lists.proofs.Listed.{place_from, place_to}
-use Rattle.upset.specs.After.{is_affected, conducts}
+use Rattle.upset.specs.After.{is_affected}
 use Rattle.chosen_arcs.specs.Places.{IsMost}
 use Rattle.chosen_arcs.proofs.Longest.{best_is}
 use Rattle.chosen_links.specs.Fitting.{bits_count, fits_in}
 use Rattle.chosen_links.proofs.Standing.{had}
 use Rattle.upset_effect.specs.declared.rule.MuxRule.TheVariants.{Present, Fits}
-use Rattle.upset_effect.specs.Passing.{IsRuleOf, bits_at, fits_at, fits_with, present_in}
+use Rattle.upset_effect.specs.Passing.{IsRuleOf, bits_at, fits_at, present_in}
 
 -- what is made of an element that is there
 pub told_or : {X Y : Type 0} (f : X → Y) (o : Option X) (y d : Y) → option_map f o ≡ Some y → option_map_or f o d ≡ y
@@ -64,10 +64,16 @@ module _ (device : Device) (g : Graph) (is : IsGraph device g) (image : Bits) wh
       | inr r ↦ (let p = place_from (λ (a : GraphArc). a.mux == m) g.arcs r.0 r.1.0 in
           let there = get_in g.arcs r.0 p.0 p.1.0 in
           let e : p.0.mux ≡ x.mux = eqb-true p.0.mux m p.1.1 ∙ sym own in
-          inr (p.0, (in_mux_to g x.mux p.0 there e, (
-            ap (λ o. fits image o p.0.arc.bits) (sym (same_origin x p.0 i there e)) ∙ (sym (ap (λ o. option_map_or (fits_in image) o false) p.1.0) ∙ r.1.1.0),
-            sym (ap (λ o. option_map_or bits_count o 0) p.1.0) ∙ r.1.1.1,
-          ))))
+          inr (
+            p.0,
+            (
+              in_mux_to g x.mux p.0 there e,
+              (
+                ap (λ o. fits image o p.0.arc.bits) (sym (same_origin x p.0 i there e)) ∙ (sym (ap (λ o. option_map_or (fits_in image) o false) p.1.0) ∙ r.1.1.0),
+                sym (ap (λ o. option_map_or bits_count o 0) p.1.0) ∙ r.1.1.1,
+              ),
+            ),
+          ))
     ];
   }
 

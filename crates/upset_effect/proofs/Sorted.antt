@@ -1,5 +1,5 @@
 -- What is left of a list that is sorted, with each number once.
-use Rattle.std.proofs.Common.{◌≡◌, refl, Bool, true, ◌&&◌, ℕ, ◌+◌, ◌<◌, ◌↔◌, List, [], ◌∷◌, suc, get_or, sym, subst, ◌∙◌, eqb, inl, inr, arith}
+use Rattle.std.proofs.Common.{◌≡◌, refl, Bool, true, ◌&&◌, ℕ, ◌+◌, ◌<◌, List, [], ◌∷◌, suc, get_or, sym, subst, ◌∙◌, eqb, inl, inr, arith}
 use Rattle.std.proofs.lemmas.List.{get_or_default}
 use Rattle.std.proofs.lemmas.List.Sorted.{Contains-permutation, IsPermutation-sym}
 use Rattle.std.proofs.lemmas.List.Kept.{Contains-dedup_nat, Contains-from_dedup}

@@ -1,10 +1,10 @@
 -- The walk back along counting drivers.
-use Rattle.std.proofs.Common.{◌≡◌, ℕ, ◌+◌, ◌<◌, ◌↔◌, Option, Some, None, List, [], ◌∷◌, ◌++◌, length, get_or, refl, sym, ap, subst, ◌∙◌, inl, inr, arith}
+use Rattle.std.proofs.Common.{◌≡◌, ℕ, ◌+◌, ◌<◌, ◌↔◌, Option, Some, None, List, [], ◌∷◌, length, get_or, sym, ap, subst, ◌∙◌, inl, inr, arith}
 use Rattle.std.specs.Prelude.{nat_eq, option_to_list, MatchOption}
 use Rattle.std.proofs.lemmas.Bool.{cases_eq}
 use Rattle.std.proofs.lemmas.List.{get_or_append_left}
 use Rattle.words.specs.Members.{In}
-use Rattle.links.specs.Links.{Routing, Counting, IsClean, Reaches, here, onto, Upstream}
+use Rattle.links.specs.Links.{Routing, Counting, IsClean, here, onto, Upstream}
 use Rattle.net_links.proofs.Listed.{in_at, place_of}
 use Rattle.indexmap.specs.IndexSet.{insert_all}
 use Rattle.wire_links.proofs.Finding.{all_added, all_from, all_have, all_keep}

@@ -32,7 +32,7 @@ fn is_among(flips: &[DeviceBit], b: DeviceBit) -> bool
 }
 
 /// Whether one of some bits is among those of a list.
-pub(crate) fn is_one_among(flips: &[DeviceBit], bits: &[DeviceBit]) -> bool
+pub fn is_one_among(flips: &[DeviceBit], bits: &[DeviceBit]) -> bool
     ensures { result ≡ list_any (bits_of_list flips.now) bits.now }
 {
     bits.iter().any(|b| is_among(flips, *b))
@@ -55,7 +55,5 @@ pub(crate) fn is_present(
 ) -> bool
     ensures { result ≡ present_of (flipped (bits_of_list flips.now) (bits_of image.now)) (origin_of tile.now) pattern.now }
 {
-    pattern
-        .iter()
-        .all(|p| !p.set || get_flipped(image, flips, device_bit(tile, p)))
+    pattern.iter().all(|p| !p.set || get_flipped(image, flips, device_bit(tile, p)))
 }

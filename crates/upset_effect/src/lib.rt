@@ -15,6 +15,7 @@ mod told;
 mod touched;
 mod whole;
 
+pub use bits::is_one_among;
 pub use decided::is_shorted;
 pub use told::Effect;
-pub use whole::effect;
+pub use whole::{effect, roots};

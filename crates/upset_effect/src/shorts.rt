@@ -27,11 +27,7 @@ pub(crate) fn is_joined(after: &[WireId], is_output: bool) -> bool
 }
 
 // Adds sources, if they short their wire.
-fn add_all(
-    sources: &mut Vec<WireId>,
-    is_joined: bool,
-    after: &[WireId],
-) -> Result<(), AllocError>
+fn add_all(sources: &mut Vec<WireId>, is_joined: bool, after: &[WireId]) -> Result<(), AllocError>
     ensures { OnOk result (sources.new.items ≡ (if is_joined then sources.old.items ++ after.now else sources.old.items)) }
 {
     if is_joined {
@@ -65,10 +61,10 @@ pub(crate) fn short_sources<G: RoutingGraph>(
     flips: &[DeviceBit],
     hit: &[WireId],
 ) -> Result<Vec<WireId>, AllocError>
-    requires within { (w : ℕ) → In hit.now w → w < length live.now.graph.wires }
-    requires hit { (w : ℕ) → In hit.now w ↔ IsHitIn live.now.graph (bits_of live.now.image) (bits_of_list flips.now) w }
+    requires { (w : ℕ) → In hit.now w ↔ IsHitIn live.now.graph (bits_of live.now.image) (bits_of_list flips.now) w }
     ensures { IfOk result (λ v. (x : ℕ) → In v.items x ↔ IsShortSourceIn live.now.graph (bits_of live.now.image) (bits_of_list flips.now) x) }
 {
+    live.graph().is_of_device();
     let mut sources = Vec::new(alloc);
     for w in hit {
         add_short(alloc, live, flips, *w, &mut sources)?;

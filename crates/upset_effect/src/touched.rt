@@ -11,11 +11,7 @@ use rr_ids::{DeviceBit, Name};
 use std::alloc::{AllocError, Global};
 
 // Adds a name, if its cell is touched.
-fn add_if<'c>(
-    names: &mut Vec<&'c Name>,
-    is_touched: bool,
-    name: &'c Name,
-) -> Result<(), AllocError>
+fn add_if<'c>(names: &mut Vec<&'c Name>, is_touched: bool, name: &'c Name) -> Result<(), AllocError>
     ensures { OnOk result (map (λ n. n.now) names.new.items
         ≡ (if is_touched then map (λ n. n.now) names.old.items ++ name.now ∷ [] else map (λ n. n.now) names.old.items)) }
 {

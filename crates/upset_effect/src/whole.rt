@@ -5,6 +5,7 @@ ghost use Rattle.words.specs.Members.{In};
 ghost use Rattle.patterns.specs.Bits.{bits_of_list};
 ghost use Rattle.cram_image.specs.Image.{bits as bits_of};
 ghost use Rattle.upset.specs.Configured.{Configured};
+ghost use Rattle.upset.specs.Roots.{IsRoot};
 ghost use Rattle.upset_effect.specs.Effects.{IsEffectOf};
 ghost use Rattle.upset_effect.specs.Reach.{AreThose, IsDisturbedIn, IsHitIn};
 
@@ -20,13 +21,13 @@ use routing_graph::RoutingGraph;
 use rr_ids::{DeviceBit, WireId};
 use std::alloc::{AllocError, Global};
 
-// The wires that are hit, and those behind shorts, in order.
-fn joined(alloc: Global, hit: &[WireId], behind: &[WireId]) -> Result<Vec<WireId>, AllocError>
-    ensures { IfOk result (λ v. AreThose (λ w. In hit.now w ⊎ In behind.now w) v.items) }
+// The wires of two lists, in order, each once.
+fn joined(alloc: Global, first: &[WireId], second: &[WireId]) -> Result<Vec<WireId>, AllocError>
+    ensures { IfOk result (λ v. AreThose (λ w. In first.now w ⊎ In second.now w) v.items) }
 {
     let mut wires = Vec::new(alloc);
-    wires.extend_from_slice(hit)?;
-    wires.extend_from_slice(behind)?;
+    wires.extend_from_slice(first)?;
+    wires.extend_from_slice(second)?;
     Ok(in_order(wires))
 }
 
@@ -40,10 +41,24 @@ fn disturbed_wires<G: RoutingGraph>(
     requires { AreThose (IsHitIn live.now.graph (bits_of live.now.image) (bits_of_list flips.now)) hit.now }
     ensures { IfOk result (λ v. AreThose (IsDisturbedIn live.now.graph (bits_of live.now.image) (bits_of_list flips.now)) v.items) }
 {
-    live.graph().is_of_device();
     let sources = short_sources(alloc, live, flips, hit)?;
     let behind = behind(alloc, live, &sources)?;
     joined(alloc, hit, &behind)
+}
+
+/// The wires where the disturbance of a flip begins, in order, each once: those that are hit, and the sources of shorted ones.
+/// They have all the domains that the disturbed wires have.
+pub fn roots<G: RoutingGraph>(
+    alloc: Global,
+    live: &Live<'_, G>,
+    flips: &[DeviceBit],
+) -> Result<Vec<WireId>, AllocError>
+    ensures { IfOk result (λ v. (k : Configured) → k.graph ≡ live.now.graph → k.image ≡ bits_of live.now.image
+        → AreThose (IsRoot k (bits_of_list flips.now)) v.items) }
+{
+    let hit = hit_wires(alloc, live, flips)?;
+    let sources = short_sources(alloc, live, flips, &hit)?;
+    joined(alloc, &hit, &sources)
 }
 
 /// What a flip of device bits does in a live routing, from scratch and exactly. A bit that stands twice in the list flips once.

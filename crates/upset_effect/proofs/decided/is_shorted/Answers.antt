@@ -1,6 +1,5 @@
-use Rattle.std.proofs.Common.{◌≡◌, ◌↔◌, true, false, length, sym, subst, ap, ◌∙◌, arith}
+use Rattle.std.proofs.Common.{◌≡◌, ◌↔◌, true, sym, subst, ◌∙◌, arith}
 use Rattle.std.proofs.lemmas.Bool.{false≢true}
-use Rattle.std.specs.Prelude.{IsTrue}
 use Rattle.patterns.specs.Bits.{bits_of_list}
 use Rattle.fabric.specs.Graph.{Graph}
 use Rattle.cram_image.specs.Image.{bits}
@@ -20,7 +19,7 @@ returns-then-to_u32-wires g c =
     let number = c.to_u32.ensures in
     λ k of_graph of_image. not_shorted c.args.live.now.graph (bits_of_list c.args.flips.now) c.args.w (λ d.
     let below = driven_below (g.G.RoutingGraph.device c.graph-graph.result.now) graph c.is_of_device.ensures c.args.flips.now c.args.w
-        (subst (λ (gr : Graph). IsDriven gr (bits_of_list c.args.flips.now) c.args.w) (sym c.graph-graph.ensures) d) in
+    (subst (λ (gr : Graph). IsDriven gr (bits_of_list c.args.flips.now) c.args.w) (sym c.graph-graph.ensures) d) in
     absurd (omega arith)) k of_graph
 
 pub returns-then-not-is_driven : goal.returns-then-not-is_driven

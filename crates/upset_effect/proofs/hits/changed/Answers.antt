@@ -1,4 +1,4 @@
-use Rattle.std.proofs.Common.{ℕ, List, subst, sym, arith}
+use Rattle.std.proofs.Common.{subst, sym, arith}
 use Rattle.patterns.specs.Bits.{bits_of_list}
 use Rattle.net_links.proofs.Listed.{met}
 use Rattle.cram_image.specs.Image.{bits}

@@ -1,4 +1,4 @@
-use Rattle.std.proofs.Common.{ℕ, List, subst, sym}
+use Rattle.std.proofs.Common.{subst, sym}
 use Rattle.patterns.specs.Bits.{bits_of_list}
 use Rattle.cram_image.specs.Image.{bits}
 use Rattle.upset_effect.specs.Reach.{AreThose, IsAfter, IsBefore}

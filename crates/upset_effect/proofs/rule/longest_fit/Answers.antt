@@ -1,12 +1,10 @@
-use Rattle.std.proofs.Common.{◌<◌, ℕ, List, length, take, max, cond, refl, sym, ap, subst, ◌∙◌}
+use Rattle.std.proofs.Common.{ℕ, List, take, max, cond, refl, sym, ap, subst, ◌∙◌}
 use Rattle.words.specs.Members.{In}
 use Rattle.net_links.proofs.Listed.{met}
 use Rattle.cram_image.specs.Image.{bits}
-use Rattle.fabric.specs.Graph.{GraphArc}
 use Rattle.std.specs.Prelude.{slice_get}
-use Rattle.chosen_arcs.specs.Places.{IsMost}
 use Rattle.chosen_arcs.proofs.Longest.{most_step}
-use Rattle.chosen_links.specs.Fitting.{bits_count, fits_in}
+use Rattle.chosen_links.specs.Fitting.{fits_in}
 use Rattle.upset_effect.specs.Passing.{bits_at, fits_at}
 use Rattle.upset_effect.proofs.Rules.{arc_below, told_length, told_or}
 use Rattle.upset_effect.proofs.rule.longest_fit.Goals as goal

@@ -1,5 +1,4 @@
 use Rattle.std.proofs.Common.{◌≡◌, ◌↔◌, ◌⊎◌, ◌++◌, ℕ, List, true, cond, ap, subst, sym, ◌∙◌}
-use Rattle.std.specs.Prelude.{IsTrue}
 use Rattle.words.specs.Members.{In}
 use Rattle.patterns.specs.Bits.{bits_of_list}
 use Rattle.fabric.specs.Graph.{Graph}

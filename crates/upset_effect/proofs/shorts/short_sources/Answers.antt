@@ -1,14 +1,19 @@
-use Rattle.std.proofs.Common.{ℕ, List, ap, subst, sym, arith}
+use Rattle.std.proofs.Common.{ℕ, List, subst, arith}
 use Rattle.words.specs.Members.{In}
 use Rattle.patterns.specs.Bits.{bits_of_list}
 use Rattle.net_links.proofs.Listed.{met}
+use Rattle.fabric.specs.GraphOf.{IsGraph}
 use Rattle.cram_image.specs.Image.{bits}
 use Rattle.upset_effect.specs.Reach.{IsAfter, IsHitIn, IsJoined}
 use Rattle.upset_effect.proofs.Joining.{shorts_all, shorts_more}
+use Rattle.upset_effect.proofs.Sunk.{driven_below}
 use Rattle.upset_effect.proofs.shorts.short_sources.Goals as goal
 
 pub add_short-requires : goal.add_short-requires
-add_short-requires g c = c.requires.within c.w-item.result (met c.args.hit.now c.loop-w.w-index c.w-item.result c.loop-w-test.true c.w-item.is)
+add_short-requires g c =
+    let device = g.G.RoutingGraph.device c.graph.result.now in
+    driven_below device c.args.live.now.graph (subst (IsGraph device) c.graph.ensures c.is_of_device.ensures) c.args.flips.now c.w-item.result
+    ((c.requires c.w-item.result).0 (met c.args.hit.now c.loop-w.w-index c.w-item.result c.loop-w-test.true c.w-item.is)).0
 
 pub loop-w-init : goal.loop-w-init
 loop-w-init g c = λ x. (
@@ -29,4 +34,4 @@ returns g c =
     let graph = c.args.live.now.graph in
     let image = bits c.args.live.now.image in
     let flips = bits_of_list c.args.flips.now in
-    shorts_all (IsJoined graph image flips) (IsAfter graph image flips) c.args.hit.now (IsHitIn graph image flips) c.loop-w.w-index c.loop-w.sources.items (omega arith) c.requires.hit c.loop-w.invariant
+    shorts_all (IsJoined graph image flips) (IsAfter graph image flips) c.args.hit.now (IsHitIn graph image flips) c.loop-w.w-index c.loop-w.sources.items (omega arith) c.requires c.loop-w.invariant

@@ -1,4 +1,4 @@
-use Rattle.std.proofs.Common.{◌≡◌, ◌++◌, ℕ, List, flat_map, ap, subst, ◌∙◌}
+use Rattle.std.proofs.Common.{◌++◌, ℕ, List, flat_map, ap, subst, ◌∙◌}
 use Rattle.words.specs.Members.{In}
 use Rattle.upset_effect.specs.Driven.{bit_sinks, sink_at}
 use Rattle.upset_effect.proofs.Gathered.{flat_more}

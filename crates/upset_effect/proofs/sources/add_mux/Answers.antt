@@ -1,7 +1,6 @@
-use Rattle.std.proofs.Common.{◌≡◌, ◌++◌, ℕ, List, flat_map, ap, sym, subst, ◌∙◌}
+use Rattle.std.proofs.Common.{◌≡◌, ◌++◌, ℕ, List, flat_map, ap, subst, ◌∙◌}
 use Rattle.words.specs.Members.{In}
 use Rattle.patterns.specs.Bits.{bits_of_list}
-use Rattle.graph_lists.specs.ArcLists.{arcs_in}
 use Rattle.cram_image.specs.Image.{bits}
 use Rattle.upset_effect.specs.Passing.{mux_sources, passes, source_by}
 use Rattle.upset_effect.proofs.Gathered.{by_rule}

@@ -2,7 +2,7 @@ use Rattle.patterns.specs.Bits.{bits_of_list}
 use Rattle.net_links.proofs.Listed.{met}
 use Rattle.cram_image.specs.Image.{bits}
 use Rattle.upset_effect.specs.Passing.{mux_sources}
-use Rattle.upset_effect.proofs.Gathered.{flat_all, flat_more}
+use Rattle.upset_effect.proofs.Gathered.{flat_more}
 use Rattle.upset_effect.proofs.sources.add_muxes.Goals as goal
 
 pub add_mux-requires : goal.add_mux-requires

@@ -1,4 +1,4 @@
-use Rattle.std.proofs.Common.{◌≡◌, ◌++◌, ℕ, List, flat_map, ap, sym, subst, ◌∙◌}
+use Rattle.std.proofs.Common.{◌≡◌, ◌++◌, ℕ, List, flat_map, ap, subst, ◌∙◌}
 use Rattle.words.specs.Members.{In}
 use Rattle.patterns.specs.Bits.{bits_of_list}
 use Rattle.graph_lists.specs.ArcLists.{muxes_into}

@@ -1,21 +1,14 @@
 use Rattle.std.proofs.Common.{◌↔◌, ◌⊎◌, ℕ, List, subst, sym}
 use Rattle.words.specs.Members.{In}
 use Rattle.patterns.specs.Bits.{bits_of_list}
-use Rattle.fabric.specs.GraphOf.{IsGraph}
 use Rattle.cram_image.specs.Image.{bits}
-use Rattle.upset_effect.specs.Reach.{AreThose, IsBehind, IsDisturbedIn, IsHitIn, IsShortSourceIn}
+use Rattle.upset_effect.specs.Reach.{AreThose, IsBehind, IsDisturbedIn, IsShortSourceIn}
 use Rattle.upset_effect.proofs.Effecting.{are_disturbed}
 use Rattle.upset_effect.proofs.Outcomes.{if_ok}
-use Rattle.upset_effect.proofs.Sunk.{driven_below}
 use Rattle.upset_effect.proofs.whole.disturbed_wires.Goals as goal
 
 pub short_sources-requires : goal.short_sources-requires
-short_sources-requires g c =
-    let device = g.G.RoutingGraph.device c.graph.result.now in
-    record {
-      within = λ w i. driven_below device c.args.live.now.graph (subst (IsGraph device) c.graph.ensures c.is_of_device.ensures) c.args.flips.now w ((c.requires.members w).0 i).0;
-      hit = c.requires.members;
-    }
+short_sources-requires g c = c.requires.members
 
 pub returns : goal.returns
 returns g c =

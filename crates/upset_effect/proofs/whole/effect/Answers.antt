@@ -1,7 +1,6 @@
-use Rattle.std.proofs.Common.{ℕ, List, map, subst}
+use Rattle.std.proofs.Common.{map}
 use Rattle.patterns.specs.Bits.{bits_of_list}
 use Rattle.cram_image.specs.Image.{bits}
-use Rattle.upset_effect.specs.Effects.{FlipEffect}
 use Rattle.upset_effect.proofs.Effecting.{effect_is}
 use Rattle.upset_effect.proofs.whole.effect.Goals as goal
 

@@ -4,6 +4,6 @@ use Rattle.upset_effect.proofs.whole.joined.Goals as goal
 
 pub returns : goal.returns
 returns c =
-    both_in_order c.args.hit.now c.args.behind.now c.extend_from_slice-2.new.self.items c.extend_from_slice.new.self.items c.in_order.result.items
-    (c.in_ok-extend_from_slice.ensures.items ∙ ap (λ (zs : List ℕ). zs ++ c.args.hit.now) c.new-wires.ensures.items)
+    both_in_order c.args.first.now c.args.second.now c.extend_from_slice-2.new.self.items c.extend_from_slice.new.self.items c.in_order.result.items
+    (c.in_ok-extend_from_slice.ensures.items ∙ ap (λ (zs : List ℕ). zs ++ c.args.first.now) c.new-wires.ensures.items)
     c.in_ok-extend_from_slice-2.ensures.items c.in_order.ensures
