@@ -1,0 +1,12 @@
+pub mod Outcomes
+pub mod Sorted
+pub mod Affected
+pub mod Rules
+pub mod Gathered
+pub mod Sunk
+pub mod Kept
+pub mod Changing
+pub mod Walked
+pub mod Joining
+pub mod Effecting
+pub mod Driving

@@ -1,0 +1,5 @@
+pub mod Passing
+pub mod Reach
+pub mod Driven
+pub mod Found
+pub mod Effects
