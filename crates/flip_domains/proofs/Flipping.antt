@@ -1,5 +1,5 @@
 -- The domains of flips are those of the roots and of the touched cells.
-use Rattle.std.proofs.Common.{◌≡◌, ◌≢◌, ℕ, ◌↔◌, ◌⊎◌, true, false, List, ◌++◌, map, filter, get_or, Option, Some, None, refl, sym, ap, subst, ◌∙◌, inl, inr}
+use Rattle.std.proofs.Common.{◌≡◌, ℕ, ◌↔◌, ◌⊎◌, Bool, true, false, List, map, filter, get_or, Some, None, sym, ap, subst, ◌∙◌, inl, inr}
 use Rattle.std.specs.List.{list_any}
 use Rattle.std.proofs.lemmas.Bool.{false≢true}
 use Rattle.words.specs.Members.{In}
@@ -7,20 +7,19 @@ use Rattle.patterns.specs.Bits.{Bits}
 use Rattle.records.specs.Side.{Domain}
 use Rattle.links.specs.Links.{IsClean}
 use Rattle.links.proofs.Members.{in_either, in_left, in_right, in_map, of_map}
-use Rattle.fabric.specs.Graph.{Graph}
 use Rattle.fabric.specs.Links.{routing_of}
 use Rattle.fabric_laws.proofs.Members.{in_filter_from, in_filter_to}
 use Rattle.circuit.specs.Cells.{SliceCell, PadCell, Cells}
-use Rattle.circuit.specs.Triples.{Member, members, LiesIn}
+use Rattle.circuit.specs.Triples.{Member, LiesIn}
 use Rattle.circuit.specs.WellFormed.{NamesApart}
 use Rattle.upset.specs.Configured.{Configured, circuit_of}
-use Rattle.upset.specs.Effect.{IsTouched, touched_names}
+use Rattle.upset.specs.Effect.{touched_names}
 use Rattle.upset.specs.Roots.{IsRoot, RootsHave}
-use Rattle.upset.specs.Safe.{FlipsHave}
+use Rattle.upset.specs.Safe.{FlipsHave, IsBad}
 use Rattle.upset_laws.proofs.Roots.{roots_domains}
 use Rattle.domain_map.specs.Labels.{AreLabels, WireLabels}
 use Rattle.flip_domains.specs.declared.set.Domains.{Domains}
-use Rattle.flip_domains.specs.Sets.{Gains, has_domain}
+use Rattle.flip_domains.specs.Sets.{Gains, HasTwo, has_domain}
 use Rattle.flip_domains.proofs.Gaining.{OneOf}
 
 -- a setting of a slice, or of a pad, of a domain names a bit that flips
@@ -60,22 +59,26 @@ module _ (cells : Cells) (flips : Bits) (d : Domain) where
   pub by_slice : OneOf (SliceHas flips) cells.slices d → CellHas cells flips d
   unfolding touched_slices touched_pads slice_names pad_names slice_member pad_member
   by_slice h =
-      let domain = h.1.1.1 in
-      (h.0.name, (
-        in_left slice_names pad_names h.0.name (in_map (λ (s : SliceCell). s.name) touched_slices h.0 (in_filter_to (λ (s : SliceCell). list_any flips s.bits) cells.slices h.0 h.1.0 h.1.1.0)),
-        in_left (map slice_member cells.slices) (map pad_member cells.pads) (record { name = h.0.name; domain = d })
-        (subst (In (map slice_member cells.slices)) (λ j. record { name = h.0.name; domain = domain j }) (in_map slice_member cells.slices h.0 h.1.0)),
-      ))
+      let domain = h.1.1.1 in (
+        h.0.name,
+        (
+          in_left slice_names pad_names h.0.name (in_map (λ (s : SliceCell). s.name) touched_slices h.0 (in_filter_to (λ (s : SliceCell). list_any flips s.bits) cells.slices h.0 h.1.0 h.1.1.0)),
+          in_left (map slice_member cells.slices) (map pad_member cells.pads) (record { name = h.0.name; domain = d })
+              (subst (In (map slice_member cells.slices)) (λ j. record { name = h.0.name; domain = domain j }) (in_map slice_member cells.slices h.0 h.1.0)),
+        ),
+      )
 
   pub by_pad : OneOf (PadHas flips) cells.pads d → CellHas cells flips d
   unfolding touched_slices touched_pads slice_names pad_names slice_member pad_member
   by_pad h =
-      let domain = h.1.1.1 in
-      (h.0.name, (
-        in_right slice_names pad_names h.0.name (in_map (λ (p : PadCell). p.name) touched_pads h.0 (in_filter_to (λ (p : PadCell). list_any flips p.bits) cells.pads h.0 h.1.0 h.1.1.0)),
-        in_right (map slice_member cells.slices) (map pad_member cells.pads) (record { name = h.0.name; domain = d })
-        (subst (In (map pad_member cells.pads)) (λ j. record { name = h.0.name; domain = domain j }) (in_map pad_member cells.pads h.0 h.1.0)),
-      ))
+      let domain = h.1.1.1 in (
+        h.0.name,
+        (
+          in_right slice_names pad_names h.0.name (in_map (λ (p : PadCell). p.name) touched_pads h.0 (in_filter_to (λ (p : PadCell). list_any flips p.bits) cells.pads h.0 h.1.0 h.1.1.0)),
+          in_right (map slice_member cells.slices) (map pad_member cells.pads) (record { name = h.0.name; domain = d })
+              (subst (In (map pad_member cells.pads)) (λ j. record { name = h.0.name; domain = domain j }) (in_map pad_member cells.pads h.0 h.1.0)),
+        ),
+      )
 
   -- a touched slice by its name, and a cell of that name
   of_slice : NamesApart cells → (name : List ℕ) (s : SliceCell) → In cells.slices s → list_any flips s.bits ≡ true → s.name ≡ name → LiesIn cells name d → OneOf (SliceHas flips) cells.slices d
@@ -144,3 +147,10 @@ module _ (k : Configured) (flips : Bits) (l : WireLabels) (wires : List ℕ) (no
     (λ h. (roots_domains k flips clean d).1 (from_pads d h)),
     (λ h. to_pads d ((roots_domains k flips clean d).0 h)),
   )
+
+-- flips are bad where their set has two domains
+pub bad_is : (k : Configured) (flips : Bits) (s : Domains) (b : Bool) → ((d : Domain) → (has_domain s d ≡ true) ↔ FlipsHave k flips d) → (b ≡ true) ↔ HasTwo s → (b ≡ true) ↔ IsBad k flips
+bad_is k flips s b are two = (
+  (λ h. let t = two.0 h in (t.0, (t.1.0, ((are t.0).0 t.1.1.0, (are t.1.0).0 t.1.1.1, t.1.1.2)))),
+  (λ h. two.1 (h.0, (h.1.0, ((are h.0).1 h.1.1.0, (are h.1.0).1 h.1.1.1, h.1.1.2)))),
+)

@@ -1,11 +1,11 @@
 //! The domains of a flip.
 
-ghost use Rattle.std.specs.Prelude.{◌≡◌, ◌↔◌, IfOk, true};
+ghost use Rattle.std.specs.Prelude.{◌≡◌, ◌↔◌, IfOk, IsTrue, true};
 ghost use Rattle.patterns.specs.Bits.{bits_of_list};
 ghost use Rattle.records.specs.Side.{Domain as Copy};
 ghost use Rattle.circuit.specs.WellFormed.{NamesApart};
 ghost use Rattle.upset.specs.Configured.{Configured, circuit_of};
-ghost use Rattle.upset.specs.Safe.{FlipsHave};
+ghost use Rattle.upset.specs.Safe.{FlipsHave, IsBad};
 ghost use Rattle.cram_image.specs.Image.{bits as bits_of};
 ghost use Rattle.domain_map.specs.Labels.{AreLabels};
 ghost use Rattle.flip_domains.specs.Sets.{has_domain};
@@ -41,4 +41,20 @@ pub fn flip_domains<G: RoutingGraph>(
     add_slices(&mut domains, cells.slices.as_slice(), flips);
     add_pads(&mut domains, cells.pads.as_slice(), flips);
     Ok(domains)
+}
+
+/// Whether a flip of device bits is bad, so that it has two domains, where labels are those of the wires and no two cells have one
+/// name.
+pub fn is_bad<G: RoutingGraph>(
+    alloc: Global,
+    live: &Live<'_, G>,
+    labels: &Labels,
+    cells: &Cells,
+    flips: &[DeviceBit],
+) -> Result<bool, AllocError>
+    ensures { IfOk result (λ b. (k : Configured) → k.graph ≡ live.now.graph → k.image ≡ bits_of live.now.image → k.cells ≡ cells.now
+        → AreLabels (circuit_of k) labels.now → NamesApart k.cells → IsTrue b ↔ IsBad k (bits_of_list flips.now)) }
+{
+    let domains = flip_domains(alloc, live, labels, cells, flips)?;
+    Ok(domains.has_two())
 }

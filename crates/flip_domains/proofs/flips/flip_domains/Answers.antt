@@ -5,7 +5,6 @@ use Rattle.links.specs.Links.{IsClean}
 use Rattle.fabric.specs.Graph.{Graph}
 use Rattle.fabric.specs.Links.{routing_of}
 use Rattle.circuit.specs.Cells.{Cells, PadCell, SliceCell}
-use Rattle.cram_image.specs.Image.{bits}
 use Rattle.upset.specs.Roots.{IsRoot}
 use Rattle.flip_domains.specs.Sets.{Gains}
 use Rattle.flip_domains.proofs.Flipping.{PadHas, SliceHas, domains_are}
