@@ -23,7 +23,7 @@ use upset_effect::roots;
 /// The domains of a flip of device bits, exactly, where labels are those of the wires and no two cells have one name: those of the
 /// wires that are hit, of the sources of shorted ones and of the touched cells, since those further back add none. It costs what
 /// the flip touches.
-pub fn flip_domains<G: RoutingGraph>(
+pub fn domains_of_flips<G: RoutingGraph>(
     alloc: Global,
     live: &Live<'_, G>,
     labels: &Labels,
@@ -55,6 +55,6 @@ pub fn is_bad<G: RoutingGraph>(
     ensures { IfOk result (λ b. (k : Configured) → k.graph ≡ live.now.graph → k.image ≡ bits_of live.now.image → k.cells ≡ cells.now
         → AreLabels (circuit_of k) labels.now → NamesApart k.cells → IsTrue b ↔ IsBad k (bits_of_list flips.now)) }
 {
-    let domains = flip_domains(alloc, live, labels, cells, flips)?;
+    let domains = domains_of_flips(alloc, live, labels, cells, flips)?;
     Ok(domains.has_two())
 }

@@ -5,5 +5,5 @@ mod flips;
 mod gathered;
 mod set;
 
-pub use flips::{flip_domains, is_bad};
+pub use flips::{domains_of_flips, is_bad};
 pub use set::Domains;

@@ -9,7 +9,7 @@ use Rattle.upset.specs.Roots.{IsRoot}
 use Rattle.flip_domains.specs.Sets.{Gains}
 use Rattle.flip_domains.proofs.Flipping.{PadHas, SliceHas, domains_are}
 use Rattle.flip_domains.proofs.Gaining.{OneOf}
-use Rattle.flip_domains.proofs.flips.flip_domains.Goals as goal
+use Rattle.flip_domains.proofs.flips.domains_of_flips.Goals as goal
 
 pub returns : goal.returns
 returns g c = λ k of_graph of_image of_cells labels apart.
