@@ -2,4 +2,3 @@ pub mod Whole
 pub mod Words
 pub mod Chosen
 pub mod Ended
-pub mod Checking

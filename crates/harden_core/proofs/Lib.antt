@@ -1,5 +1,0 @@
-pub mod Graphless
-pub mod CellFaults
-pub mod Formed
-pub mod Refusals
-pub mod Moved
