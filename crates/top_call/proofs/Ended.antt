@@ -1,6 +1,6 @@
 -- How a reply that is printed, or that there was no memory for, ends a run.
 use Rattle.std.proofs.Common.{◌≡◌, ℕ, List, [], ◌++◌, refl, sym, subst}
-use Rattle.std.specs.Prelude.{Result, Ok, Err, IfOk}
+use Rattle.std.specs.Prelude.{Result, Ok, Err, IfErr, IfOk}
 use Rattle.std.specs.declared.alloc.AllocError.{AllocError}
 use Rattle.patterns.specs.Bits.{DeviceBit}
 use Rattle.answers.specs.Answers.{Status, Done, Unsafe, NoRoute, Refused, Usage, ReadFault, WriteFault, Memory, Answer}
@@ -96,6 +96,15 @@ printed_usage (Err k) reply ReadFault before now u c = absurd (both u c.0)
 -- there was no memory for a reply
 pub unreplied_ends : (files now : Files) (reading : Result Command ℕ) (faults : Faults) (output : List ℕ) → now ≡ files → IsEnd files reading faults output Memory now output
 unreplied_ends files now reading faults output e = subst (λ (n : Files). IsEnd files reading faults output Memory n output) (sym e) wants_memory
+
+pub unreplied_usage : (reading : Result Command ℕ) → UsageOnly reading Memory
+unreplied_usage (Ok command) = λ e. (let wrong : ⊥ = cc in wrong)
+unreplied_usage (Err k) = tt
+
+-- a fact holds where the words have no reading, too
+pub unread_too : (reading : Result Command ℕ) (P : Type 0) → P → IfErr reading (λ k. P)
+unread_too (Ok command) P p = tt
+unread_too (Err k) P p = p
 
 -- the telling of the one file of `drivers`
 pub unread_proper : (files : Files) (name : List ℕ) (bits : List DeviceBit) (result : Result Answer AllocError)

@@ -2,3 +2,4 @@ pub mod Whole
 pub mod Words
 pub mod Chosen
 pub mod Ended
+pub mod Checking

@@ -1,12 +1,13 @@
 -- The program reads words as commands that it knows.
 use Rattle.std.proofs.Common.{◌≡◌, ℕ, Bool, true, false, ◌||◌, List, [], ◌∷◌, refl, subst}
-use Rattle.std.specs.Prelude.{Result, Ok, Err, IfOk, codes}
+use Rattle.std.specs.Prelude.{Result, Ok, Err, IfOk, codes, if◌then◌else◌}
 use Rattle.std.specs.Str.{bytes_eq}
 use Rattle.words.specs.OrMemory.{OrMemory}
 use Rattle.patterns.specs.Bits.{DeviceBit}
 use Rattle.commands.specs.Commands as commands
 use Rattle.commands.specs.BitWords.{bit_words}
-use Rattle.commands.specs.Readings.{command_words, drivers_with, drivers_words, is_among}
+use Rattle.commands.specs.Options.{Given}
+use Rattle.commands.specs.Readings.{command_words, drivers_with, drivers_words, input_options, inputs_of, is_among, options_of, with_options}
 use Rattle.command_words.specs.Views.{command_view, usage_of}
 use Rattle.command_words.specs.declared.command.Command.{Command}
 use Rattle.command_words.specs.declared.command.Command.TheVariants.{Drivers, Check, Analyse, Harden, Run}
@@ -26,22 +27,29 @@ drivers_known : (words : List (List ℕ)) → IsKnownReading (drivers_words word
 drivers_known [] = tt
 drivers_known (name ∷ words) = with_bits name (bit_words 3 words)
 
-one_name : (b : Bool) → b || false ≡ true → b ≡ true
-one_name true e = refl
-one_name false e = e
+check_known : (given : Result (List Given) ℕ) → IsKnownReading (with_options (λ g. commands.Check (inputs_of g)) given)
+check_known (Ok given) = tt
+check_known (Err k) = tt
+
+-- a name that is one of these has the words of its command
+by_names : (drivers check : Bool) (words : List (List ℕ)) (other : Result commands.Command ℕ) → (drivers || (check || false)) ≡ true
+    → IsKnownReading (if drivers then drivers_words words else if check then with_options (λ g. commands.Check (inputs_of g)) (options_of input_options words) else other)
+by_names true check words other e = drivers_known words
+by_names false true words other e = check_known (options_of input_options words)
+by_names false false words other e = absurd (let no : ⊥ = cc in no)
 
 known : (name : List ℕ) (words : List (List ℕ)) → is_among known_commands name ≡ true → IsKnownReading (command_words name words)
-known name words e = let first : bytes_eq name (codes "drivers") ≡ true = one_name (bytes_eq name (codes "drivers")) e in rw first (drivers_known words)
+known name words e = by_names (bytes_eq name (codes "drivers")) (bytes_eq name (codes "check")) words _ e
 
 pub known_command : (name : List ℕ) (words : List (List ℕ)) (result : Result Command WordsError) → is_among known_commands name ≡ true
     → OrMemory command_view usage_of result (command_words name words) → IfOk result (λ c. IsKnownCommand (command_view c))
 known_command name words (Ok c) among e = subst IsKnownReading e (known name words among)
 known_command name words (Err x) among e = tt
 
--- of these there is `drivers` alone
-pub only_drivers : (command : Command) → IsKnownCommand (command_view command) → ((name : _) (bits : _) → command ≡ Drivers name bits → ⊥) → ⊥
-only_drivers (Drivers name bits) k other = other name bits refl
-only_drivers (Check inputs) k other = k
-only_drivers (Analyse inputs) k other = k
-only_drivers (Harden inputs hardening) k other = k
-only_drivers (Run blocks) k other = k
+-- these are `drivers` and `check`
+pub only_these : (command : Command) → IsKnownCommand (command_view command) → ((name : _) (bits : _) → command ≡ Drivers name bits → ⊥) → ((inputs : _) → command ≡ Check inputs → ⊥) → ⊥
+only_these (Drivers name bits) k drivers check = drivers name bits refl
+only_these (Check inputs) k drivers check = check inputs refl
+only_these (Analyse inputs) k drivers check = k
+only_these (Harden inputs hardening) k drivers check = k
+only_these (Run blocks) k drivers check = k

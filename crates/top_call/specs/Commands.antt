@@ -6,7 +6,7 @@ use Rattle.commands.specs.Readings.{reading_of}
 
 -- the commands that the program has
 abbrev pub known_commands : List (List ℕ)
-known_commands = codes "drivers" ∷ []
+known_commands = codes "drivers" ∷ codes "check" ∷ []
 
 -- what the words behind the program's name are read as
 abbrev pub reading_of_words : List (String Global) → Result Command ℕ
@@ -15,7 +15,7 @@ reading_of_words words = reading_of known_commands (map string_bytes words)
 -- the command is one of them
 abbrev pub IsKnownCommand : Command → Type 0
 IsKnownCommand (Drivers name bits) = Unit {0}
-IsKnownCommand (Check inputs) = ⊥
+IsKnownCommand (Check inputs) = Unit {0}
 IsKnownCommand (Analyse inputs) = ⊥
 IsKnownCommand (Harden inputs hardening) = ⊥
 IsKnownCommand (Run blocks) = ⊥

@@ -1,5 +1,5 @@
 -- What is to be printed, as a status and a text: an answer, or that a file couldn't be read.
-use Rattle.std.specs.Prelude.{◌≡◌, ◌≢◌, ℕ, ◌≤◌, List, [], Result, Ok, Err}
+use Rattle.std.specs.Prelude.{◌≡◌, ◌≢◌, ℕ, ◌≤◌, List, [], Result, Ok, Err, IfOk}
 use Rattle.std.specs.declared.alloc.AllocError.{AllocError}
 use Rattle.words.specs.Rose.{Rose}
 use Rattle.answers.specs.Texts.{read_fault_text}
@@ -7,6 +7,8 @@ use Rattle.answers.specs.Answers.{Status, Done, Unsafe, NoRoute, Refused, Usage,
 use Rattle.commands.specs.Commands.{Command}
 use Rattle.design_files.specs.Parsed.{Files}
 use Rattle.design_answers.specs.Outcomes.{Outcome}
+use Rattle.design_reader.specs.declared.errors.FileError.{FileError}
+use Rattle.design_reader.specs.declared.errors.FileError.TheVariants as error
 use Rattle.run_ends.specs.Ends.{IsAnswered}
 use Rattle.run_ends.specs.Reads.{MayBeRead}
 
@@ -60,3 +62,9 @@ IsDriversStatus Usage = ⊥
 IsDriversStatus ReadFault = ⊥
 IsDriversStatus WriteFault = ⊥
 IsDriversStatus Memory = ⊥
+
+-- a reading of files that failed is answered by its text; there is no answer where memory runs out
+abbrev pub AnswersError : FileError → Result Answer AllocError → Type 0
+AnswersError (error.Refused text) result = IfOk result (λ answer. answer ≡ record { status = Refused; text = text.items })
+AnswersError (error.Unread text) result = IfOk result (λ answer. answer ≡ record { status = ReadFault; text = text.items })
+AnswersError error.Memory result = IfOk result (λ answer. ⊥)

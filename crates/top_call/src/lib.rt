@@ -1,6 +1,7 @@
 //! The top call `harden_main`: what the words behind the program's name say is done over any files and any sink.
 #![tactic(auto)]
 
+mod check;
 mod command;
 mod drivers;
 mod print;

@@ -15,6 +15,7 @@ ghost use Rattle.replies.specs.Statuses.{status_of};
 ghost use Rattle.top_call.specs.Commands.{IsKnownCommand, reading_of_words};
 ghost use Rattle.top_call.specs.Replies.{IsDriversStatus, IsProper, IsReply, ReplyCounts, UsageReply, without_files};
 
+use super::check::reply_to_check;
 use super::command::read_words;
 use super::drivers::{drivers_text, image_of};
 use super::print::print;
@@ -85,7 +86,7 @@ fn reply_to_file<F: Files>(
 }
 
 // The reply to a command. Files are read, and none is written.
-#[tactic(auto, using(crate::proofs::Words::only_drivers))]
+#[tactic(auto, using(crate::proofs::Words::only_these))]
 fn reply_to_command<F: Files>(
     alloc: Global,
     command: Command<'_>,
@@ -102,6 +103,7 @@ fn reply_to_command<F: Files>(
 {
     match command {
         Command::Drivers(name, bits) => reply_to_file(alloc, name, bits.as_slice(), files),
+        Command::Check(inputs) => reply_to_check(alloc, &inputs, files),
         _ => unreachable!(),
     }
 }

@@ -4,7 +4,7 @@ use Rattle.run_ends.specs.Counts.{Faults, faults_between}
 use Rattle.run_ends.specs.Ends.{IsEnd}
 use Rattle.top_call.specs.Commands.{reading_of_words}
 use Rattle.replies.specs.Statuses.{status_of}
-use Rattle.top_call.proofs.Ended.{printed_ends, printed_usage, keeps, unreplied_ends}
+use Rattle.top_call.proofs.Ended.{printed_ends, printed_usage, keeps, unreplied_ends, unreplied_usage}
 use Rattle.top_call.proofs.top.harden_main.Goals as goal
 
 pub returns-in-Ok-clause-ends : goal.returns-in-Ok-clause-ends
@@ -32,3 +32,10 @@ returns-in-Err-clause-ends g c = λ known told.
     unreplied_ends (g.F.Files.file c.args.files.now) (g.F.Files.file c.reply_to.new.files) (reading_of_words c.args.words.now)
     (faults_between g.F.Files.read_faults g.F.Files.write_faults g.O.Sink.faults c.args.files.now c.reply_to.new.files c.args.out.now c.args.out.now)
     (g.O.Sink.written c.args.out.now) c.in-Err.ensures.content
+
+pub returns-in-Err-clause-content : goal.returns-in-Err-clause-content
+returns-in-Err-clause-content g c =
+    keeps (reading_of_words c.args.words.now) (g.F.Files.file c.args.files.now) (g.F.Files.file c.reply_to.new.files) c.in-Err.ensures.content
+
+pub returns-in-Err-clause-usage : goal.returns-in-Err-clause-usage
+returns-in-Err-clause-usage g c = unreplied_usage (reading_of_words c.args.words.now)

@@ -1,0 +1,5 @@
+pub mod Graphless
+pub mod CellFaults
+pub mod Formed
+pub mod Refusals
+pub mod Moved

@@ -1,0 +1,49 @@
+//! The reply of `check`.
+
+ghost use Rattle.std.specs.Prelude.{◌≡◌, Ok};
+ghost use Rattle.commands.specs.Commands as commands;
+ghost use Rattle.top_call.specs.Replies.{AnswersError, IsProper, IsReply, ReplyCounts, UsageReply};
+
+use check_command::checked;
+use command_words::Inputs;
+use design_reader::{FileError, read_design};
+use outside::Files;
+use replies::{Reply, Status};
+use std::alloc::{AllocError, Global};
+
+// The reply where the files give no design.
+fn unread_design(error: FileError) -> Result<Reply, AllocError>
+    ensures { AnswersError error result }
+{
+    match error {
+        FileError::Refused(text) => Ok(Reply {
+            status: Status::Refused,
+            text,
+        }),
+        FileError::Unread(text) => Ok(Reply {
+            status: Status::ReadFault,
+            text,
+        }),
+        FileError::Memory => Err(AllocError),
+    }
+}
+
+/// The reply of `check` to the files of a design.
+pub fn reply_to_check<F: Files>(
+    alloc: Global,
+    inputs: &Inputs<'_>,
+    files: &mut F,
+) -> Result<Reply, AllocError>
+    ensures told { F.told files.old → F.told files.new }
+    ensures content { F.file files.new ≡ F.file files.old }
+    ensures reply { F.told files.old → IsReply (F.file files.old) (Ok (commands.Check inputs.now)) result }
+    ensures proper { F.told files.old → IsProper (F.file files.old) (Ok (commands.Check inputs.now)) result }
+    ensures usage { UsageReply (Ok (commands.Check inputs.now)) result }
+    ensures reads { ReplyCounts result (F.read_faults files.old) (F.read_faults files.new) }
+    ensures writes { F.write_faults files.new ≡ F.write_faults files.old }
+{
+    match read_design(alloc, files, inputs) {
+        Ok(design) => checked(alloc, &design),
+        Err(error) => unread_design(error),
+    }
+}
