@@ -10,6 +10,7 @@ mod refused;
 
 pub use checked::{Counts, checked_text, safe_text};
 pub use named::{PartName, PinName, Wire};
+pub use pieces::{push_number, push_wire, push_word};
 pub use refusal::Refusal;
 pub use refused::refused_text;
 

@@ -38,7 +38,7 @@ fn push_signed(text: &mut Vec<u8>, number: i32) -> Result<(), AllocError>
 }
 
 /// Adds a space and a word.
-pub(crate) fn push_word(text: &mut Vec<u8>, word: &[u8]) -> Result<(), AllocError>
+pub fn push_word(text: &mut Vec<u8>, word: &[u8]) -> Result<(), AllocError>
     ensures { OnOk result (text.new.items ≡ text.old.items ++ spaced (word.now ∷ [])) }
 {
     push_bytes(text, b" ")?;
@@ -46,7 +46,7 @@ pub(crate) fn push_word(text: &mut Vec<u8>, word: &[u8]) -> Result<(), AllocErro
 }
 
 /// Adds a space and a number.
-pub(crate) fn push_number(text: &mut Vec<u8>, number: u32) -> Result<(), AllocError>
+pub fn push_number(text: &mut Vec<u8>, number: u32) -> Result<(), AllocError>
     ensures { OnOk result (text.new.items ≡ text.old.items ++ spaced (decimal number ∷ [])) }
 {
     push_bytes(text, b" ")?;
@@ -65,7 +65,7 @@ fn push_place(text: &mut Vec<u8>, row: i32, col: i32) -> Result<(), AllocError>
 }
 
 /// Adds a space and a wire.
-pub(crate) fn push_wire(text: &mut Vec<u8>, wire: Wire<'_>) -> Result<(), AllocError>
+pub fn push_wire(text: &mut Vec<u8>, wire: Wire<'_>) -> Result<(), AllocError>
     ensures { OnOk result (text.new.items ≡ text.old.items ++ spaced (wire_text (wire_view wire.entry) ∷ [])) }
 {
     push_bytes(text, b" ")?;
