@@ -8,6 +8,7 @@ use Rattle.fabric.specs.Image.{image_of}
 use Rattle.fabric.specs.Links.{routing_of}
 use Rattle.circuit.specs.Cells.{Cells}
 use Rattle.circuit.specs.Circuits.{Circuit}
+use Rattle.circuit.specs.Sound.{IsSoundCircuit}
 use Rattle.circuit.specs.Triplicated.{IsTriplicated}
 use Rattle.cells.specs.CellsOf.{cells_of}
 use Rattle.upset.specs.Configured.{circuit_of}
@@ -59,9 +60,16 @@ module _ (design : Design) (g : Graph) (cells : Cells) (is : IsGraph design.devi
   pub outputs_are : (o : ℕ) → In c.routing.outputs o → o < length g.wires
   outputs_are o i = outputs_within design.device g is o i
 
-  pub triplicated : IsClean (routing_of g (image_of g design.config)) → Passes (CircuitRefused g c) → IsTriplicated c
+  triplicated : IsClean (routing_of g (image_of g design.config)) → Passes (CircuitRefused g c) → IsTriplicated c
   triplicated clean passes =
       ((circuits_are g c clean (read_well_formed design.device (configured_as design g cells) read) (read_entries design.device (configured_as design g cells) read) (output_wire design.device g is)).holds passes).1
+
+  pub sound : IsClean (routing_of g (image_of g design.config)) → Passes (CircuitRefused g c) → IsSoundCircuit c
+  sound clean passes = record {
+    clean = clean;
+    formed = read_well_formed design.device (configured_as design g cells) read;
+    triplicated = triplicated clean passes;
+  }
 
 -- a profile that is read has few pins at each table
 pub few_pins : (profile : Profile) → IsReadProfile profile → HasFewPins profile
@@ -84,5 +92,5 @@ loaded design live cells feeds g over image is device side apart its clean are p
   image = subst (λ (x : Graph). bits live.image ≡ image_of x design.config) (sym over) image;
   its_cells = subst (λ (x : Graph). cells_of x design.device.profile (image_of x design.config) design.side ≡ Ok cells) (sym over) its;
   its_feeds = subst (λ (x : Graph). ArePinFeeds (circuit_of (configured_as design x cells)) feeds) (sym over) are;
-  triplicated = subst (λ (x : Graph). IsTriplicated (circuit_of (configured_as design x cells))) (sym over) (triplicated design g cells is device side apart its clean passes);
+  sound = subst (λ (x : Graph). IsSoundCircuit (circuit_of (configured_as design x cells))) (sym over) (sound design g cells is device side apart its clean passes);
 }

@@ -4,7 +4,7 @@ use Rattle.fabric.specs.GraphOf.{IsGraph}
 use Rattle.fabric.specs.Image.{image_of}
 use Rattle.circuit.specs.Cells.{Cells}
 use Rattle.circuit.specs.Circuits.{Circuit}
-use Rattle.circuit.specs.Triplicated.{IsTriplicated}
+use Rattle.circuit.specs.Sound.{IsSoundCircuit}
 use Rattle.cells.specs.CellsOf.{cells_of}
 use Rattle.upset.specs.Configured.{circuit_of}
 use Rattle.design_files.specs.Designs.{Design}
@@ -25,10 +25,10 @@ pub record LoadedDesign : Type 0 where
   pub feeds : List (Option ℕ)
 
 -- The live routing is that of the image of the design's text over the graph of its device, the cells are those of this image, and
--- the list has what feeds each of their pins; the circuit is triplicated.
+-- the list has what feeds each of their pins; the circuit is sound: its routing is clean, and it is well formed and triplicated.
 pub record IsLoaded (design : Design) (live : LiveRouting) (cells : Cells) (feeds : List (Option ℕ)) : Type 0 where
   pub graph : IsGraph design.device live.graph
   pub image : bits live.image ≡ image_of live.graph design.config
   pub its_cells : cells_of live.graph design.device.profile (image_of live.graph design.config) design.side ≡ Ok cells
   pub its_feeds : ArePinFeeds (loaded_circuit design live cells) feeds
-  pub triplicated : IsTriplicated (loaded_circuit design live cells)
+  pub sound : IsSoundCircuit (loaded_circuit design live cells)
