@@ -26,7 +26,7 @@ use std::marker::Model;
 use text_image::graph_of_device_stands;
 
 /// A design with its live routing, its cells and the part that feeds each of their pins. They belong together, and the circuit that they
-/// are is triplicated. Contracts see the four of them.
+/// are is clean, well formed and triplicated. Contracts see the four of them.
 #[derive(Drop)]
 pub struct Loaded<'a, 'b> {
     pub(crate) design: &'a ReadDesign,
