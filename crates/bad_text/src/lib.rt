@@ -4,5 +4,5 @@
 mod lines;
 mod places;
 
-pub use lines::{BadLine, push_bad_line, unsafe_line};
+pub use lines::{push_bad_line, unsafe_line};
 pub use places::PlaceName;

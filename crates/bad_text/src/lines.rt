@@ -1,7 +1,7 @@
 //! Lines of bad bits.
 
 ghost use Rattle.std.specs.Prelude.{◌≡◌, ◌++◌, ◌∷◌, [], IfOk, OnOk, codes};
-ghost use Rattle.bad_text.specs.Lines.{bad_view, place_view};
+ghost use Rattle.bad_text.specs.Lines.{place_view};
 ghost use Rattle.fabric.specs.MuxBits.{bit_text};
 ghost use Rattle.reports.specs.ReportTexts.{bad_line, counted, domain_text, place_text};
 ghost use Rattle.rr_ids.specs.Domains.{domain_of};
@@ -11,16 +11,6 @@ use crate::places::{PlaceName, push_place};
 use report_text::{push_number, push_word};
 use rr_ids::{DeviceBit, Domain};
 use std::alloc::{AllocError, Global};
-
-/// A bad bit, with its two least domains and the place of each.
-#[derive(Clone, Copy)]
-pub struct BadLine<'a> {
-    pub bit: DeviceBit,
-    pub first: Domain,
-    pub first_at: PlaceName<'a>,
-    pub second: Domain,
-    pub second_at: PlaceName<'a>,
-}
 
 // How a domain is called.
 fn domain_word(domain: Domain) -> &'static [u8]
@@ -51,13 +41,26 @@ fn push_domain(text: &mut Vec<u8>, domain: Domain, place: PlaceName<'_>) -> Resu
     push_place(text, place)
 }
 
-/// Adds the line of a bad bit, as `F52B11 D0 R1C1/H4 D2 R1C3/H3`.
-pub fn push_bad_line(text: &mut Vec<u8>, bad: BadLine<'_>) -> Result<(), AllocError>
-    ensures { OnOk result (text.new.items ≡ text.old.items ++ bad_line (bad_view bad.entry)) }
+/// Adds the line of a bad bit with its two least domains and the place of each, as `F52B11 D0 R1C1/H4 D2 R1C3/H3`.
+pub fn push_bad_line(
+    text: &mut Vec<u8>,
+    bit: DeviceBit,
+    first: Domain,
+    first_at: PlaceName<'_>,
+    second: Domain,
+    second_at: PlaceName<'_>,
+) -> Result<(), AllocError>
+    ensures { OnOk result (text.new.items ≡ text.old.items ++ bad_line (record {
+      bit = bit;
+      first = domain_of first;
+      first_at = place_view first_at.entry;
+      second = domain_of second;
+      second_at = place_view second_at.entry;
+    })) }
 {
-    push_bit(text, bad.bit)?;
-    push_domain(text, bad.first, bad.first_at)?;
-    push_domain(text, bad.second, bad.second_at)?;
+    push_bit(text, bit)?;
+    push_domain(text, first, first_at)?;
+    push_domain(text, second, second_at)?;
     text.push(b'\n')?;
     Ok(())
 }

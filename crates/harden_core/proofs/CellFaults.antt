@@ -1,6 +1,6 @@
 -- Cells that aren't there.
-use Rattle.std.proofs.Common.{◌≡◌, Option, None, Some, Ok, Err, option_map, refl, sym, ap, subst, ◌∙◌}
-use Rattle.std.specs.Prelude.{Result, MatchOption, IfSome}
+use Rattle.std.proofs.Common.{◌≡◌, Option, None, Some, Ok, Err, option_map, refl, sym, ap, subst}
+use Rattle.std.specs.Prelude.{MatchOption, IfSome}
 use Rattle.patterns.specs.Bits.{Bits}
 use Rattle.records.specs.Profile.{Profile}
 use Rattle.records.specs.Side.{Side}

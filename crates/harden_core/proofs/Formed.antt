@@ -1,5 +1,5 @@
 -- The circuit of a design that was read.
-use Rattle.std.proofs.Common.{◌≡◌, ◌<◌, ℕ, List, length, Option, Ok, refl, sym, ap, subst}
+use Rattle.std.proofs.Common.{◌≡◌, ◌<◌, ℕ, List, length, Option, Ok, refl, sym, subst}
 use Rattle.words.specs.Members.{In}
 use Rattle.links.specs.Links.{IsClean}
 use Rattle.fabric.specs.Graph.{Graph}

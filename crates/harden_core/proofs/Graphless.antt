@@ -1,5 +1,4 @@
 -- Devices without a graph.
-use Rattle.std.proofs.Common.{◌≡◌, ap}
 use Rattle.records.specs.Limits.{Limit, limit_name}
 use Rattle.fabric.specs.Graph.{Graph}
 use Rattle.fabric.specs.GraphOf.{IsGraph}

@@ -42,10 +42,13 @@ module _ (a b c d last : Refusal → Type 0) where
   pub front_refuses : (e : LoadError) → IsRefusedBy (a before b before c) e → IsRefusedBy Whole e
   front_refuses e h = refused_more (a before b before c) Whole e (λ r x. inl (elim x [
     | inl p ↦ inl p
-    | inr q ↦ inr (q.0, (elim q.1 [
-      | inl p ↦ inl p
-      | inr s ↦ inr (s.0, inl s.1)
-    ]))
+    | inr q ↦ inr (
+      q.0,
+      (elim q.1 [
+        | inl p ↦ inl p
+        | inr s ↦ inr (s.0, inl s.1)
+      ]),
+    )
   ])) h
 
   four_pass : Passes a → Passes b → Passes c → Passes d → Passes (a before b before c before d)

@@ -1,6 +1,5 @@
 use Rattle.std.proofs.Common.{sym, ap, subst}
 use Rattle.circuit.specs.Cells.{Cells}
-use Rattle.cram_image.specs.Image.{bits}
 use Rattle.design_checks.specs.DesignChecks.{configured_as}
 use Rattle.design_files.specs.Designs.{Design}
 use Rattle.fabric.specs.Device.{Device}
@@ -37,6 +36,6 @@ returns-in-Ok-clause-answer c =
     let once = c.parts_number_once.ensures g design.device.profile image design.side cells c.requires.side c.requires.cells in
     let whole : IsFormed circuit cells design.side feeds = formed design g cells is c.requires.device c.requires.side c.requires.apart c.requires.cells feeds ordered once clean fed in
     let lent : IsFormed circuit c.in-Ok.parts c.design.inside.side feeds =
-        subst (λ (s : Side). IsFormed circuit c.in-Ok.parts s feeds) (sym (ap (λ (d : Design). d.side) c.design.view_is))
-        (subst (λ (x : Cells). IsFormed circuit x design.side feeds) (sym c.in-Ok.ensures) whole) in
+    subst (λ (s : Side). IsFormed circuit c.in-Ok.parts s feeds) (sym (ap (λ (d : Design). d.side) c.design.view_is))
+    (subst (λ (x : Cells). IsFormed circuit x design.side feeds) (sym c.in-Ok.ensures) whole) in
     c.circuit_or_refused.ensures circuit lent (outputs_are design g cells is c.requires.device c.requires.side c.requires.apart c.requires.cells)
