@@ -17,7 +17,7 @@ use Rattle.fabric_laws.proofs.Graphs.{one_graph}
 use Rattle.load_routing.specs.declared.error.LoadError.{LoadError}
 use Rattle.load_routing.specs.declared.error.LoadError.TheVariants.{Refused, Memory}
 use Rattle.load_routing.specs.Refused.{IsRefusedBy}
-use Rattle.check_command.specs.Checked.{accepted_answer, refused_answer, IsCheckedBy, IsCheckedAs, AnswersError}
+use Rattle.check_command.specs.Checked.{accepted_answer, IsCheckedBy, IsCheckedAs, AnswersError}
 
 -- where checks pass, the counts are the answer
 pub accepted_by : (check : Refusal → Type 0) (side : Side) (result : Result Answer AllocError) → Passes check → IfOk result (λ answer. answer ≡ accepted_answer side)

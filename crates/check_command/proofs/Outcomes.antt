@@ -1,7 +1,6 @@
 -- What is answered to a design that is read is the outcome of `check` over the files of which it was read.
-use Rattle.std.proofs.Common.{◌≡◌, ◌⊎◌, inl, inr, [], refl, sym, ap, subst, ◌∙◌}
-use Rattle.std.specs.Prelude.{Option, Some, None, Result, Ok, option_map}
-use Rattle.records.specs.Side.{Side}
+use Rattle.std.proofs.Common.{◌≡◌, ◌⊎◌, inl, inr, [], refl, sym, ap, subst}
+use Rattle.std.specs.Prelude.{Option, Some, None, Ok, option_map}
 use Rattle.fabric.specs.Graph.{Graph}
 use Rattle.fabric.specs.GraphOf.{IsGraph}
 use Rattle.fabric.specs.Image.{image_of}
@@ -18,12 +17,12 @@ use Rattle.design_checks.specs.Checks.{Passes, ◌before◌, Computed}
 use Rattle.design_checks.specs.LineChecks.{line_refusal}
 use Rattle.design_checks.specs.RoutingChecks.{ArcsDiffer, AreContested}
 use Rattle.design_checks.specs.CellChecks.{cell_refusal, refusal_of_cells}
-use Rattle.design_checks.specs.DesignChecks.{GraphRefused, TextRefused, CellsRefused, DesignRefused, IsFirstRefusal, of_design}
+use Rattle.design_checks.specs.DesignChecks.{GraphRefused, TextRefused, CellsRefused, DesignRefused, of_design}
 use Rattle.design_answers.specs.Outcomes.{IsOutcome, checks, refuses}
 use Rattle.check_laws.proofs.Passing.{first_passes, second_passes}
 use Rattle.fabric_laws.specs.PlainGraph.{graph_of}
 use Rattle.fabric_laws.proofs.Graphs.{has_graph}
-use Rattle.check_command.specs.Checked.{accepted_answer, refused_answer, IsCheckedBy, IsCheckedAs}
+use Rattle.check_command.specs.Checked.{IsCheckedBy, IsCheckedAs}
 
 -- what is computed passes where there is nothing
 nothing : (refusal : Option Refusal) → Passes (Computed refusal) → refusal ≡ None
