@@ -6,7 +6,7 @@ use Rattle.circuit.specs.Cells.{Cells}
 use Rattle.circuit.specs.Circuits.{Circuit}
 use Rattle.circuit.specs.Sound.{IsSoundCircuit}
 use Rattle.cells.specs.CellsOf.{cells_of}
-use Rattle.upset.specs.Configured.{circuit_of}
+use Rattle.upset.specs.Configured.{Configured, circuit_of}
 use Rattle.design_files.specs.Designs.{Design}
 use Rattle.design_checks.specs.DesignChecks.{configured_as}
 use Rattle.pin_feeds.specs.PinFeeds.{ArePinFeeds}
@@ -32,3 +32,7 @@ pub record IsLoaded (design : Design) (live : LiveRouting) (cells : Cells) (feed
   pub its_cells : cells_of live.graph design.device.profile (image_of live.graph design.config) design.side ≡ Ok cells
   pub its_feeds : ArePinFeeds (loaded_circuit design live cells) feeds
   pub sound : IsSoundCircuit (loaded_circuit design live cells)
+
+-- the circuit of a loaded design on its device
+abbrev pub loaded_as : LoadedDesign → Configured
+loaded_as l = configured_as l.design l.live.graph l.cells
