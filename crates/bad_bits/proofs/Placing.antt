@@ -16,7 +16,7 @@ use Rattle.bad_bits.specs.Numbered.{NumberedPlace, OnWire, OnCell}
 use Rattle.bad_bits.specs.Least.{LeastOrNone, TouchedOf, has_label, is_that}
 use Rattle.bad_bits.specs.Found.{IsPlaceAt, PlaceOrNone}
 use Rattle.bad_bits.proofs.Leasts.{find_least, least_same}
-use Rattle.bad_bits.proofs.Touched.{is_same, same_is}
+use Rattle.bad_bits.proofs.TouchedCells.{is_same, same_is}
 
 that_is : (d : Domain) (o : Option Domain) → is_that d o ≡ true → o ≡ Some d
 that_is d None h = absurd (false≢true h)

@@ -1,5 +1,5 @@
 -- What is found of one bit. (Our own.)
-use Rattle.std.specs.Prelude.{◌≡◌, ◌≢◌, ℕ, Option, None, Some}
+use Rattle.std.specs.Prelude.{◌≡◌, ◌≢◌, ℕ, Bool, true, false, Option, None, Some}
 use Rattle.std.specs.Ordering.{nat_cmp}
 use Rattle.patterns.specs.Bits.{DeviceBit, Bits}
 use Rattle.records.specs.Side.{Domain, D0, D1, D2}
@@ -20,6 +20,19 @@ abbrev pub PlaceOrNone : Configured → Bits → Domain → Option NumberedPlace
 PlaceOrNone k flips d None = FlipsHave k flips d → ⊥
 PlaceOrNone k flips d (Some place) = IsPlaceAt k flips d place
 
+-- a bit with two domains and the place of each
+pub record ArePlaces (k : Configured) (flips : Bits) (bit : DeviceBit) (first second : Domain) (b : NumberedBad) : Type 0 where
+  pub bit_is : b.bit ≡ bit
+  pub first_is : b.first ≡ first
+  pub first_at : IsPlaceAt k flips first b.first_at
+  pub second_is : b.second ≡ second
+  pub second_at : IsPlaceAt k flips second b.second_at
+
+-- that, or none where the flips don't have both domains
+abbrev pub PlacesOrNone : Configured → Bits → DeviceBit → Domain → Domain → Option NumberedBad → Type 0
+PlacesOrNone k flips bit first second None = FlipsHave k flips first → FlipsHave k flips second → ⊥
+PlacesOrNone k flips bit first second (Some b) = ArePlaces k flips bit first second b
+
 -- the bit, with its two least domains and the place of each
 pub record IsFoundBad (k : Configured) (bit : DeviceBit) (b : NumberedBad) : Type 0 where
   pub bit_is : b.bit ≡ bit
@@ -33,11 +46,12 @@ abbrev pub BadOrNone : Configured → DeviceBit → Option NumberedBad → Type 
 BadOrNone k bit None = IsBad k (only bit) → ⊥
 BadOrNone k bit (Some b) = IsFoundBad k bit b
 
--- a bit with the two least of the domains that have a place; none where fewer than two have one
-abbrev pub first_two : DeviceBit → Option NumberedPlace → Option NumberedPlace → Option NumberedPlace → Option NumberedBad
-first_two bit (Some a) (Some b) c = Some (record { bit = bit; first = D0; first_at = a; second = D1; second_at = b })
-first_two bit (Some a) None (Some b) = Some (record { bit = bit; first = D0; first_at = a; second = D2; second_at = b })
-first_two bit None (Some a) (Some b) = Some (record { bit = bit; first = D1; first_at = a; second = D2; second_at = b })
-first_two bit (Some a) None None = None
-first_two bit None (Some a) None = None
-first_two bit None None c = None
+
+-- the two least domains of those that are there; none where fewer than two are
+abbrev pub two_of : Bool → Bool → Bool → Option (Domain × Domain)
+two_of true true d2 = Some (D0, D1)
+two_of true false true = Some (D0, D2)
+two_of false true true = Some (D1, D2)
+two_of true false false = None
+two_of false true false = None
+two_of false false d2 = None

@@ -3,8 +3,8 @@
 
 mod all;
 mod bad;
-mod cells;
 mod places;
+mod touched;
 
 pub use all::bad_bits;
 pub use bad::{BadBit, Place};

@@ -7,12 +7,12 @@ ghost use Rattle.patterns.specs.Bits.{bits_of_list};
 ghost use Rattle.rr_ids.specs.Domains.{domain_of};
 ghost use Rattle.upset.specs.Configured.{Configured, circuit_of};
 ghost use Rattle.upset_effect.specs.Effects.{IsEffectOf};
-ghost use Rattle.bad_bits.specs.Found.{PlaceOrNone};
+ghost use Rattle.bad_bits.specs.Found.{PlaceOrNone, PlacesOrNone};
 ghost use Rattle.bad_bits.specs.Least.{has_label};
 ghost use Rattle.bad_bits.specs.Views.{place_view};
 
-use crate::Place;
-use crate::cells::{least_touched, same_domain};
+use crate::{BadBit, Place};
+use crate::touched::{least_touched, same_domain};
 use cell_parts::Cells;
 use domain_map::Labels;
 use rr_ids::{DeviceBit, Domain, WireId};
@@ -57,5 +57,34 @@ pub(crate) fn place_of<'c>(
     match least_touched(cells, flips, domain) {
         Some(name) => Some(Place::Cell(name)),
         None => None,
+    }
+}
+
+/// A bit with two domains of its flips, with their effect, and the place of each; none where the flips don't have both.
+pub(crate) fn bad_at<'c>(
+    labels: &Labels,
+    cells: &'c Cells,
+    effect: &Effect<'_>,
+    flips: &[DeviceBit],
+    bit: DeviceBit,
+    first: Domain,
+    second: Domain,
+) -> Option<BadBit<'c>>
+    ensures { (k : Configured) → k.cells ≡ cells.now → AreLabels (circuit_of k) labels.now → NamesApart k.cells
+        → IsEffectOf k (bits_of_list flips.now) effect.now
+        → PlacesOrNone k (bits_of_list flips.now) bit (domain_of first) (domain_of second) result }
+{
+    match place_of(labels, cells, effect, flips, first) {
+        None => None,
+        Some(first_at) => match place_of(labels, cells, effect, flips, second) {
+            None => None,
+            Some(second_at) => Some(BadBit {
+                bit,
+                first,
+                first_at,
+                second,
+                second_at,
+            }),
+        },
     }
 }
