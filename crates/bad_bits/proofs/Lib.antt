@@ -3,5 +3,6 @@ pub mod TouchedCells
 pub mod Placing
 pub mod Single
 pub mod Bounds
+pub mod Pairing
 pub mod Listing
 pub mod Laws
