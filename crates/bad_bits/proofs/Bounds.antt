@@ -1,11 +1,9 @@
 -- A wire with a domain is one of the graph.
-use Rattle.std.proofs.Common.{◌≡◌, ℕ, ◌<◌, length, subst}
-use Rattle.words.specs.Members.{In}
+use Rattle.std.proofs.Common.{ℕ, ◌<◌, length}
 use Rattle.records.specs.Side.{Domain}
-use Rattle.links.specs.Links.{Routing, Drives, Reaches, here, onto, Below}
+use Rattle.links.specs.Links.{Routing, here, onto, Below}
 use Rattle.link_order.specs.Order.{AreWithin}
 use Rattle.fabric.specs.Device.{Device}
-use Rattle.fabric.specs.Graph.{Graph}
 use Rattle.fabric.specs.GraphOf.{IsGraph}
 use Rattle.fabric.specs.Links.{routing_of}
 use Rattle.circuit.specs.Domains.{HasDomain}

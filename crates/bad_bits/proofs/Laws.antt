@@ -1,12 +1,10 @@
 -- The list of bad bits: its names, where it is empty, and that its wires are those of the graph.
-use Rattle.std.proofs.Common.{◌≡◌, ◌↔◌, ℕ, ◌<◌, true, List, [], ◌∷◌, map, length, get_or, Option, None, Some, refl, sym, ap, subst, ◌∙◌, inl, inr}
+use Rattle.std.proofs.Common.{◌≡◌, ◌↔◌, ℕ, ◌<◌, true, List, [], ◌∷◌, map, length, get_or, Some, refl, sym, subst, inl, inr}
 use Rattle.std.specs.Prelude.{slice_get}
-use Rattle.std.specs.Ordering.{nat_cmp}
-use Rattle.std.specs.declared.cmp.Ordering.{Ordering}
 use Rattle.std.specs.declared.cmp.Ordering.TheVariants.{Less}
 use Rattle.std.proofs.lemmas.Option.{slice_get-get_or, slice_get_within}
 use Rattle.words.specs.Members.{In}
-use Rattle.patterns.specs.Bits.{DeviceBit, Bits, bits_of_list}
+use Rattle.patterns.specs.Bits.{DeviceBit, Bits}
 use Rattle.records.specs.Side.{Domain}
 use Rattle.links.proofs.Members.{in_map, of_map}
 use Rattle.fabric.specs.Device.{Device}
@@ -18,10 +16,9 @@ use Rattle.fabric.specs.MuxBits.{bit_cmp, is_mux_bit, mux_bits}
 use Rattle.graph_lists.specs.BitLists.{AreMuxBits}
 use Rattle.graph_lists.proofs.BitsOf.{listed_from, listed_to}
 use Rattle.upset.specs.Configured.{Configured}
-use Rattle.upset.specs.Safe.{FlipsHave, IsBad, IsSafe, only}
+use Rattle.upset.specs.Safe.{IsBad, IsSafe, only}
 use Rattle.reports.specs.Reports.{Place, AtWire, InCell, BadPlace}
-use Rattle.design_checks.specs.Checks.{IsLeast}
-use Rattle.design_answers.specs.BadBits.{AreBadPlaces, IsBadPlace, IsPlaceOf, at_wire, in_cell, domain_cmp}
+use Rattle.design_answers.specs.BadBits.{AreBadPlaces, IsBadPlace, IsPlaceOf, at_wire, in_cell}
 use Rattle.bad_bits.specs.Numbered.{NumberedPlace, OnWire, OnCell, NumberedBad}
 use Rattle.bad_bits.specs.Placed.{ArePlaced, IsNamed, IsPlaced}
 use Rattle.bad_bits.specs.Found.{IsPlaceAt, IsFoundBad}

@@ -3,7 +3,7 @@ use Rattle.std.proofs.Common.{◌≡◌, ◌≢◌, ℕ, ◌+◌, ◌<◌, ◌�
 use Rattle.std.specs.declared.cmp.Ordering.{Ordering}
 use Rattle.std.specs.declared.cmp.Ordering.TheVariants.{Less, Equal, Greater}
 use Rattle.std.specs.Ordering.{nat_cmp, is_gt, ordering_reverse}
-use Rattle.std.specs.Cmp.{IsTotalOrder, nat_cmp_total}
+use Rattle.std.specs.Cmp.{nat_cmp_total}
 use Rattle.std.specs.Cmp.Lexicographic.{nat_list_cmp_total}
 use Rattle.std.proofs.lemmas.Bool.{false≢true}
 use Rattle.std.proofs.lemmas.Cmp.{upto, tied_itself}
@@ -12,7 +12,6 @@ use Rattle.words.specs.Members.{In}
 use Rattle.links.proofs.Members.{in_either, in_left, in_right}
 use Rattle.fabric.specs.InOrder.{IsRising}
 use Rattle.fabric.specs.Wires.{name_cmp}
-use Rattle.design_checks.specs.Checks.{IsLeast}
 use Rattle.bad_bits.specs.Least.{LeastOrNone, NamesOf, lesser_of}
 
 not_after : (o : Ordering) → o ≢ Greater → is_gt o ≡ false

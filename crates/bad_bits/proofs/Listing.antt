@@ -1,5 +1,5 @@
 -- Bad bits one after the other.
-use Rattle.std.proofs.Common.{◌≡◌, ℕ, ◌+◌, ◌<◌, ◌≤◌, List, [], ◌∷◌, ◌++◌, length, take, drop, get_or, Option, None, Some, refl, sym, ap, subst, ◌∙◌, inl, inr}
+use Rattle.std.proofs.Common.{◌≡◌, ℕ, ◌+◌, ◌<◌, ◌≤◌, List, [], ◌∷◌, ◌++◌, length, take, drop, get_or, refl, sym, ap, subst, ◌∙◌, inl, inr}
 use Rattle.std.specs.declared.cmp.Ordering.{Ordering}
 use Rattle.std.specs.declared.cmp.Ordering.TheVariants.{Less}
 use Rattle.std.proofs.lemmas.List.{take_all, take_more, take-append-drop}
@@ -11,7 +11,7 @@ use Rattle.fabric.specs.MuxBits.{bit_cmp}
 use Rattle.upset.specs.Configured.{Configured}
 use Rattle.upset.specs.Safe.{IsBad, only}
 use Rattle.bad_bits.specs.Numbered.{NumberedBad}
-use Rattle.bad_bits.specs.Found.{IsFoundBad, BadOrNone}
+use Rattle.bad_bits.specs.Found.{IsFoundBad}
 use Rattle.bad_bits.specs.Listed.{AreFound}
 
 -- one more element behind all others

@@ -6,7 +6,7 @@ use Rattle.std.specs.declared.cmp.Ordering.TheVariants.{Less, Equal, Greater}
 use Rattle.patterns.specs.Bits.{DeviceBit}
 use Rattle.records.specs.Side.{Domain, D0, D1, D2}
 use Rattle.upset.specs.Configured.{Configured}
-use Rattle.upset.specs.Safe.{FlipsHave, IsBad, only}
+use Rattle.upset.specs.Safe.{FlipsHave, only}
 use Rattle.fabric_laws.proofs.Graphs.{some_same}
 use Rattle.design_checks.specs.Checks.{IsLeast}
 use Rattle.design_answers.specs.BadBits.{domain_cmp}

@@ -1,20 +1,18 @@
 -- The place of a domain.
-use Rattle.std.proofs.Common.{◌≡◌, ◌↔◌, ℕ, true, List, find, get_or, Option, None, Some, sym, ap, subst, ◌∙◌, inl, inr}
+use Rattle.std.proofs.Common.{◌≡◌, ℕ, true, List, find, get_or, Option, None, Some, sym, ap, inl, inr}
 use Rattle.std.specs.Ordering.{nat_cmp}
 use Rattle.std.proofs.lemmas.Bool.{false≢true}
 use Rattle.words.specs.Members.{In}
 use Rattle.patterns.specs.Bits.{Bits}
 use Rattle.records.specs.Side.{Domain}
 use Rattle.fabric.specs.Wires.{name_cmp}
-use Rattle.circuit.specs.Cells.{Cells}
 use Rattle.upset.specs.Configured.{Configured, circuit_of}
-use Rattle.upset.specs.Safe.{FlipsHave}
 use Rattle.upset_effect.specs.Effects.{FlipEffect, IsEffectOf}
 use Rattle.design_answers.specs.BadBits.{DisturbedIn, TouchedIn}
 use Rattle.domain_map.specs.Labels.{AreLabels, WireLabels}
-use Rattle.bad_bits.specs.Numbered.{NumberedPlace, OnWire, OnCell}
-use Rattle.bad_bits.specs.Least.{LeastOrNone, TouchedOf, has_label, is_that}
-use Rattle.bad_bits.specs.Found.{IsPlaceAt, PlaceOrNone}
+use Rattle.bad_bits.specs.Numbered.{OnCell}
+use Rattle.bad_bits.specs.Least.{LeastOrNone, has_label, is_that}
+use Rattle.bad_bits.specs.Found.{PlaceOrNone}
 use Rattle.bad_bits.proofs.Leasts.{find_least, least_same}
 use Rattle.bad_bits.proofs.TouchedCells.{is_same, same_is}
 
@@ -40,8 +38,3 @@ module _ (k : Configured) (flips : Bits) (d : Domain) where
 
   pub nowhere : ((w : ℕ) → DisturbedIn k flips d w → ⊥) → ((name : List ℕ) → TouchedIn k flips d name → ⊥) → PlaceOrNone k flips d None
   nowhere none untouched h = elim h [ inl w ↦ none w.0 w.1 | inr c ↦ untouched c.0 c.1 ]
-
-  -- flips have a domain that has a place
-  pub place_has : (place : NumberedPlace) → IsPlaceAt k flips d place → FlipsHave k flips d
-  place_has (OnWire w) h = inl (w, h.has)
-  place_has (OnCell name) h = inr (name, h.1.has)

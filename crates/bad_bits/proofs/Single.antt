@@ -1,7 +1,7 @@
 -- A list of one bit is the set of that bit.
-use Rattle.std.proofs.Common.{◌≡◌, Bool, true, false, [], ◌∷◌, refl, sym, ap, subst, inl, inr}
+use Rattle.std.proofs.Common.{◌≡◌, Bool, true, false, [], ◌∷◌, refl, subst, inl, inr}
 use Rattle.std.proofs.lemmas.Bool.{false≢true}
-use Rattle.patterns.specs.Bits.{DeviceBit, Bits, bits_of_list, same_bit}
+use Rattle.patterns.specs.Bits.{DeviceBit, bits_of_list, same_bit}
 use Rattle.fabric_laws.proofs.SameBits.{same_is, same_refl}
 use Rattle.graph_lists.proofs.BitsOf.{listed_from, listed_to}
 use Rattle.upset.specs.Safe.{only}

@@ -1,5 +1,5 @@
 -- The touched cells of a domain are slices and pads with it.
-use Rattle.std.proofs.Common.{◌≡◌, ◌↔◌, ◌⊎◌, ℕ, Bool, true, false, ◌&&◌, cond, List, map, filter, Option, None, Some, refl, sym, ap, subst, ◌∙◌, inl, inr}
+use Rattle.std.proofs.Common.{◌≡◌, ◌⊎◌, ℕ, Bool, true, false, ◌&&◌, cond, List, map, filter, Option, None, Some, refl, sym, ap, subst, ◌∙◌, inl, inr}
 use Rattle.std.specs.List.{list_any}
 use Rattle.std.proofs.lemmas.Bool.{false≢true, and_from, and_parts}
 use Rattle.words.specs.Members.{In}
@@ -11,7 +11,6 @@ use Rattle.fabric_laws.proofs.Members.{in_filter_from, in_filter_to, if_true}
 use Rattle.circuit.specs.Cells.{SliceCell, PadCell, Cells}
 use Rattle.circuit.specs.Triples.{Member, LiesIn}
 use Rattle.circuit.specs.WellFormed.{NamesApart}
-use Rattle.upset.specs.Effect.{touched_names}
 use Rattle.side_form.specs.Side.{same_domain}
 use Rattle.bad_bits.specs.Least.{LeastOrNone, NamesOf, TouchedOf, lesser_of, pad_name, slice_name}
 use Rattle.bad_bits.proofs.Leasts.{lesser_least}

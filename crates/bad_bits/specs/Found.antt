@@ -46,7 +46,6 @@ abbrev pub BadOrNone : Configured → DeviceBit → Option NumberedBad → Type 
 BadOrNone k bit None = IsBad k (only bit) → ⊥
 BadOrNone k bit (Some b) = IsFoundBad k bit b
 
-
 -- the two least domains of those that are there; none where fewer than two are
 abbrev pub two_of : Bool → Bool → Bool → Option (Domain × Domain)
 two_of true true d2 = Some (D0, D1)

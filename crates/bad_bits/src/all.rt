@@ -13,8 +13,8 @@ ghost use Rattle.upset.specs.Configured.{Configured, circuit_of};
 ghost use Rattle.bad_bits.specs.Found.{BadOrNone, two_of};
 ghost use Rattle.bad_bits.specs.Placed.{ArePlaced};
 
-use crate::places::bad_at;
 use crate::BadBit;
+use crate::places::bad_at;
 use cell_parts::Cells;
 use domain_map::Labels;
 use flip_domains::{Domains, domains_of_flips};

@@ -11,8 +11,8 @@ ghost use Rattle.bad_bits.specs.Found.{PlaceOrNone, PlacesOrNone};
 ghost use Rattle.bad_bits.specs.Least.{has_label};
 ghost use Rattle.bad_bits.specs.Views.{place_view};
 
-use crate::{BadBit, Place};
 use crate::touched::{least_touched, same_domain};
+use crate::{BadBit, Place};
 use cell_parts::Cells;
 use domain_map::Labels;
 use rr_ids::{DeviceBit, Domain, WireId};

@@ -43,11 +43,7 @@ fn lesser<'c>(a: Option<&'c Name>, b: Option<&'c Name>) -> Option<&'c Name>
 }
 
 // The name of a slice of the domain with a setting that names a bit that flips.
-fn touched_slice<'c>(
-    slice: &'c SliceCell,
-    flips: &[DeviceBit],
-    domain: Domain,
-) -> Option<&'c Name>
+fn touched_slice<'c>(slice: &'c SliceCell, flips: &[DeviceBit], domain: Domain) -> Option<&'c Name>
     ensures { option_copied result ≡ slice_name (bits_of_list flips.now) (domain_of domain) slice.now }
 {
     if same_domain(domain, slice.domain) && is_one_among(flips, slice.bits.as_slice()) {
@@ -69,11 +65,7 @@ fn touched_pad<'c>(pad: &'c PadCell, flips: &[DeviceBit], domain: Domain) -> Opt
 }
 
 // The least name of the touched slices of a domain.
-fn least_slice<'c>(
-    slices: &'c [SliceCell],
-    flips: &[DeviceBit],
-    domain: Domain,
-) -> Option<&'c Name>
+fn least_slice<'c>(slices: &'c [SliceCell], flips: &[DeviceBit], domain: Domain) -> Option<&'c Name>
     ensures { LeastOrNone name_cmp (NamesOf (slice_name (bits_of_list flips.now) (domain_of domain)) slices.now) (option_copied result) }
 {
     let mut least = None;

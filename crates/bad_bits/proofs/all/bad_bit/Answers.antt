@@ -1,8 +1,7 @@
-use Rattle.std.proofs.Common.{◌≡◌, ◌↔◌, true, [], ◌∷◌, Option, None, Some, sym, ap, subst, ◌∙◌}
+use Rattle.std.proofs.Common.{◌≡◌, ◌↔◌, true, [], ◌∷◌, None, Some, sym, subst}
 use Rattle.patterns.specs.Bits.{Bits, bits_of_list}
 use Rattle.records.specs.Side.{Domain, D0, D1, D2}
 use Rattle.rr_ids.specs.Domains.{domain_of}
-use Rattle.upset.specs.Configured.{Configured, circuit_of}
 use Rattle.upset.specs.Safe.{FlipsHave, only}
 use Rattle.upset_effect.specs.Effects.{IsEffectOf}
 use Rattle.flip_domains.specs.Sets.{has_domain}

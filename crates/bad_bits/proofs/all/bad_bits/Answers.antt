@@ -1,5 +1,4 @@
-use Rattle.std.proofs.Common.{◌≡◌, ◌+◌, take, Option, None, Some, length, sym, ap, subst, ◌∙◌, arith}
-use Rattle.patterns.specs.Bits.{DeviceBit}
+use Rattle.std.proofs.Common.{◌≡◌, ◌+◌, take, sym, ap, subst, ◌∙◌, arith}
 use Rattle.fabric.specs.Graph.{Graph}
 use Rattle.fabric.specs.GraphOf.{IsGraph}
 use Rattle.graph_lists.specs.BitLists.{AreMuxBits}
@@ -21,9 +20,9 @@ loop-bit-preserved g c = λ k of_graph of_image of_cells labels apart.
     let found = c.in_ok-found.ensures k of_graph of_image of_cells labels apart in
     elim c.match-branch-2.branch [
       | in-Some+in_ok-push w ↦ add_more k bits i bit old c.match-branch-2.bad.items w.in-Some.found c.loop-bit-test.true c.bit-item.is c.bits-bit-items.ensures.rising
-        (ap (λ v. v.items) w.bad-is ∙ w.in_ok-push.ensures.items) (subst (BadOrNone k bit) w.in-Some.is found) so_far
+          (ap (λ v. v.items) w.bad-is ∙ w.in_ok-push.ensures.items) (subst (BadOrNone k bit) w.in-Some.is found) so_far
       | in_default w ↦ subst (λ xs. AreFound k (take (i + 1) bits) xs) (sym (ap (λ v. v.items) w.bad-is))
-        (skip_more k bits i bit old c.loop-bit-test.true c.bit-item.is (subst (BadOrNone k bit) w.in_default.is found) so_far)
+          (skip_more k bits i bit old c.loop-bit-test.true c.bit-item.is (subst (BadOrNone k bit) w.in_default.is found) so_far)
     ]
 
 pub returns : goal.returns

@@ -6,7 +6,7 @@ use Rattle.circuit.specs.WellFormed.{NamesApart}
 use Rattle.fabric.specs.Wires.{name_cmp}
 use Rattle.rr_ids.specs.Domains.{domain_of}
 use Rattle.upset_effect.specs.Effects.{FlipEffect}
-use Rattle.design_answers.specs.BadBits.{DisturbedIn, TouchedIn}
+use Rattle.design_answers.specs.BadBits.{DisturbedIn}
 use Rattle.bad_bits.specs.Least.{LeastOrNone, TouchedOf, has_label}
 use Rattle.bad_bits.proofs.Placing.{cell_at, least_wire, nowhere}
 use denote.Ref.{Bor}

@@ -1,4 +1,4 @@
-use Rattle.std.proofs.Common.{option_copied, ap, sym, ◌∙◌, refl, arith}
+use Rattle.std.proofs.Common.{option_copied, ap, ◌∙◌, arith}
 use Rattle.patterns.specs.Bits.{bits_of_list}
 use Rattle.rr_ids.specs.Domains.{domain_of}
 use Rattle.bad_bits.specs.Least.{lesser_of, pad_name}
