@@ -2,7 +2,7 @@
 use Rattle.std.proofs.Common.{◌≡◌, ◌≢◌, ℕ, List, sym, subst, arith}
 use Rattle.std.specs.Prelude.{Option, Some, None, Result, Ok, Err}
 use Rattle.std.specs.declared.alloc.AllocError.{AllocError}
-use Rattle.answers.specs.Answers.{Status, Refused, ReadFault, Usage, Answer}
+use Rattle.answers.specs.Answers.{Refused, Usage, Answer}
 use Rattle.answers.specs.Refusals.{Refusal}
 use Rattle.commands.specs.Commands.{Command, Inputs, Drivers, Check, Analyse, Harden, Run}
 use Rattle.design_files.specs.Parsed.{Files}
