@@ -15,15 +15,15 @@ fn push_option(alloc: Global, words: &mut Vec<String>, option: &str, value: &str
     push_word(alloc, words, value)
 }
 
-// The words of `check` over a family, a configuration and a side file.
-fn check_words(alloc: Global, names: &str) -> Result<Vec<String>> {
+// The words of a command over a family, a configuration and a side file.
+fn design_words(alloc: Global, command: &str, names: &str) -> Result<Vec<String>> {
     let (family, rest) = names.split_once(' ').context("a family is wanted")?;
     let (config, side) = rest
         .split_once(' ')
         .context("a configuration and a side file are wanted")?;
     let profile = format!(in alloc; "{family}/profile.json")?;
     let mut words = Vec::new(alloc);
-    push_word(alloc, &mut words, "check")?;
+    push_word(alloc, &mut words, command)?;
     push_option(alloc, &mut words, "--family", family)?;
     push_option(alloc, &mut words, "--profile", profile.as_str())?;
     push_option(alloc, &mut words, "--side", side)?;
@@ -44,7 +44,7 @@ fn plain_words(alloc: Global, line: &str) -> Result<Vec<String>> {
 pub fn words_of(alloc: Global, line: &str) -> Result<Option<Vec<String>>> {
     let (kind, what) = line.split_once(' ').unwrap_or((line, ""));
     match kind {
-        "check" => Ok(Some(check_words(alloc, what)?)),
+        "check" | "analyse" => Ok(Some(design_words(alloc, kind, what)?)),
         "words" => Ok(Some(plain_words(alloc, what)?)),
         _ => Ok(None),
     }

@@ -2,8 +2,9 @@
 //! the text that it prints. The file `told` lists the files that are there, by paths as they stand in `examples`. The file
 //! `cases` has lines that change what the next case runs over (see `setup`), and lines that are cases:
 //!
-//!     check FAMILY CONFIG SIDE     `check` over this family, with its profile
-//!     words WORD..                 the words themselves
+//!     check FAMILY CONFIG SIDE      `check` over this family, with its profile
+//!     analyse FAMILY CONFIG SIDE    `analyse` over it
+//!     words WORD..                  the words themselves
 //!
 //! Lines with `#` are headings.
 #![tactic(auto)]

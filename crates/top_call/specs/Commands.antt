@@ -6,7 +6,7 @@ use Rattle.commands.specs.Readings.{reading_of}
 
 -- the commands that the program has
 abbrev pub known_commands : List (List ℕ)
-known_commands = codes "drivers" ∷ codes "check" ∷ []
+known_commands = codes "drivers" ∷ codes "check" ∷ codes "analyse" ∷ []
 
 -- what the words behind the program's name are read as
 abbrev pub reading_of_words : List (String Global) → Result Command ℕ
@@ -16,6 +16,6 @@ reading_of_words words = reading_of known_commands (map string_bytes words)
 abbrev pub IsKnownCommand : Command → Type 0
 IsKnownCommand (Drivers name bits) = Unit {0}
 IsKnownCommand (Check inputs) = Unit {0}
-IsKnownCommand (Analyse inputs) = ⊥
+IsKnownCommand (Analyse inputs) = Unit {0}
 IsKnownCommand (Harden inputs hardening) = ⊥
 IsKnownCommand (Run blocks) = ⊥

@@ -2,31 +2,15 @@
 
 ghost use Rattle.std.specs.Prelude.{◌≡◌, Ok};
 ghost use Rattle.commands.specs.Commands as commands;
-ghost use Rattle.top_call.specs.Replies.{AnswersError, IsProper, IsReply, ReplyCounts, UsageReply};
+ghost use Rattle.top_call.specs.Replies.{IsProper, IsReply, ReplyCounts, UsageReply};
 
+use super::no_design::unread_design;
 use check_command::checked;
 use command_words::Inputs;
-use design_reader::{FileError, read_design};
+use design_reader::read_design;
 use outside::Files;
-use replies::{Reply, Status};
+use replies::Reply;
 use std::alloc::{AllocError, Global};
-
-// The reply where the files give no design.
-fn unread_design(error: FileError) -> Result<Reply, AllocError>
-    ensures { AnswersError error result }
-{
-    match error {
-        FileError::Refused(text) => Ok(Reply {
-            status: Status::Refused,
-            text,
-        }),
-        FileError::Unread(text) => Ok(Reply {
-            status: Status::ReadFault,
-            text,
-        }),
-        FileError::Memory => Err(AllocError),
-    }
-}
 
 /// The reply of `check` to the files of a design.
 pub fn reply_to_check<F: Files>(

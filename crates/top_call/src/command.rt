@@ -13,7 +13,7 @@ use std::alloc::Global;
 fn is_known(name: &str) -> bool
     ensures { result ≡ is_among known_commands name.now }
 {
-    name == "drivers" || name == "check"
+    name == "drivers" || name == "check" || name == "analyse"
 }
 
 /// Reads the words behind the program's name.

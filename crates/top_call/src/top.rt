@@ -15,6 +15,7 @@ ghost use Rattle.replies.specs.Statuses.{status_of};
 ghost use Rattle.top_call.specs.Commands.{IsKnownCommand, reading_of_words};
 ghost use Rattle.top_call.specs.Replies.{IsDriversStatus, IsProper, IsReply, ReplyCounts, UsageReply, without_files};
 
+use super::analyse::reply_to_analyse;
 use super::check::reply_to_check;
 use super::command::read_words;
 use super::drivers::{drivers_text, image_of};
@@ -104,6 +105,7 @@ fn reply_to_command<F: Files>(
     match command {
         Command::Drivers(name, bits) => reply_to_file(alloc, name, bits.as_slice(), files),
         Command::Check(inputs) => reply_to_check(alloc, &inputs, files),
+        Command::Analyse(inputs) => reply_to_analyse(alloc, &inputs, files),
         _ => unreachable!(),
     }
 }
