@@ -3,4 +3,4 @@ pub mod CellFaults
 pub mod Formed
 pub mod Refusals
 pub mod Moved
-pub mod Analysing
+pub mod Labelled

@@ -59,3 +59,8 @@ module _ (l : LoadedDesign) (loaded : IsLoaded l.design l.live l.cells l.feeds) 
       → ((d : Domain) × RightOutside (circuit_of (loaded_as l)) f d) × TwoAreRight (circuit_of (loaded_as l)) f)
       → found ≡ [] → (f : Fault) → IsMuxFault (loaded_as l) f → ((d : Domain) × RightOutside (circuit_of (loaded_as l)) f d) × TwoAreRight (circuit_of (loaded_as l)) f
   masked found lists law none = law ((found_where_unsafe (loaded_as l) found lists.0 lists.1.0 lists.1.1).0 none)
+
+-- what is so of a value is so once another thing follows from it
+pub once_ok : {X E : Type 0} (P Q : X → Type 0) (r : Result X E) → ((x : X) → P x → Q x) → IfOk r P → IfOk r Q
+once_ok P Q (Ok x) f h = f x h
+once_ok P Q (Err e) f h = tt
