@@ -1,5 +1,5 @@
 -- The labels of a loaded design, and what its list of bad bits says.
-use Rattle.std.proofs.Common.{◌≡◌, ℕ, ◌<◌, ◌&&◌, Bool, true, false, List, [], ◌∷◌, Option, inl, inr, nat_lt, refl, sym, ap, subst}
+use Rattle.std.proofs.Common.{◌≡◌, ℕ, ◌<◌, ◌&&◌, Bool, true, false, List, [], ◌∷◌, Option, arith, inl, inr, nat_lt, refl, sym, ap, subst}
 use Rattle.std.specs.Prelude.{Result, Ok, Err, IfOk}
 use Rattle.std.specs.List.{list_all}
 use Rattle.std.specs.declared.alloc.AllocError.{AllocError}
@@ -33,8 +33,9 @@ both false b e = absurd (let no : ⊥ = cc in no)
 -- pins that pass a test have their wires below the count
 pub all_below : (count : ℕ) (ps : List Pin) → list_all (λ (p : Pin). nat_lt p.wire count) ps ≡ true → (p : Pin) → In ps p → p.wire < count
 all_below count [] e p i = absurd i
-all_below count (q ∷ ps) e p (inl same) = subst (λ (x : Pin). x.wire < count) same (let e0 = (both _ _ e).0 in grind arith)
-all_below count (q ∷ ps) e p (inr i) = all_below count ps (both _ _ e).1 p i
+all_below count (q ∷ ps) e p (inl same) =
+    subst (λ (x : Pin). x.wire < count) same (let e0 : nat_lt q.wire count ≡ true = (both (nat_lt q.wire count) (list_all (λ (x : Pin). nat_lt x.wire count) ps) e).0 in grind arith)
+all_below count (q ∷ ps) e p (inr i) = all_below count ps (both (nat_lt q.wire count) (list_all (λ (x : Pin). nat_lt x.wire count) ps) e).1 p i
 
 module _ (l : LoadedDesign) (loaded : IsLoaded l.design l.live l.cells l.feeds) where
   -- the labels of its wires
